@@ -1,0 +1,4 @@
+pub mod Signs
+pub mod Quotient
+pub mod Halves
+pub mod Keys

@@ -1,0 +1,42 @@
+-- A walk over the numbers below a bound in rising order, defined by how many are done, with its laws: a loop's invariant is one equation.
+use mathlib.Core.Path.{_≡_, refl, ap, _∙_}
+use Prim.Native.Nat.{ℕ, zero, suc, _+_, _<_}
+use native.Mathlib.Numerals.{add-one}
+use native.Mathlib.Omega.{arith}
+
+module _ {ℓ} {A : Type ℓ} where
+  -- the steps 0 to n - 1 of f, one after the other
+  unfoldable pub upTo : (ℕ → A → A) → ℕ → A → A
+  upTo f zero s = s
+  upTo f (suc j) s = f j (upTo f j s)
+
+  -- a loop that makes the walk: before its first turn, over a turn, at its end
+  pub upTo-none : (f : ℕ → A → A) (s : A) → s ≡ upTo f 0 s
+  unfolding upTo
+  upTo-none f s = refl
+
+  pub upTo-next : (f : ℕ → A → A) (j : ℕ) (s : A) → upTo f (j + 1) s ≡ f j (upTo f j s)
+  unfolding upTo
+  upTo-next f j s = rw add-one
+
+  pub upTo-more : (f : ℕ → A → A) (j : ℕ) (s₀ s s' : A) → s ≡ upTo f j s₀ → s' ≡ f j s → s' ≡ upTo f (j + 1) s₀
+  upTo-more f j s₀ s s' p q = rw upTo-next (q ∙ ap (f j) p)
+
+  pub upTo-end : (f : ℕ → A → A) (j n : ℕ) (s₀ s : A) → s ≡ upTo f j s₀ → j ≡ n → s ≡ upTo f n s₀
+  upTo-end f j n s₀ s p q = rw (← q) p
+
+  -- steps that agree make the same walk
+  pub upTo-same : (f g : ℕ → A → A) (n : ℕ) (s : A) → ((j : ℕ) → j < n → (x : A) → f j x ≡ g j x) → upTo f n s ≡ upTo g n s
+  unfolding upTo
+  upTo-same f g zero s h = refl
+  upTo-same f g (suc n) s h = h n (omega arith) (upTo f n s) ∙ ap (g n) (upTo-same f g n s (λ j l x. h j (omega arith) x))
+
+  -- what each step carries on, from what j steps gave to what j + 1 give, holds after the walk
+  pub upTo-carries {ℓ'} : (P : ℕ → A → Type ℓ') (f : ℕ → A → A) (n : ℕ) (s : A) → ((j : ℕ) → j < n → (x : A) → P j x → P (suc j) (f j x)) → P 0 s → P n (upTo f n s)
+  unfolding upTo
+  upTo-carries P f zero s h p = p
+  upTo-carries P f (suc n) s h p = h n (omega arith) (upTo f n s) (upTo-carries P f n s (λ j l x. h j (omega arith) x) p)
+
+  -- what each step keeps, the walk keeps
+  pub upTo-keeps {ℓ'} : (P : A → Type ℓ') (f : ℕ → A → A) (n : ℕ) (s : A) → ((j : ℕ) → j < n → (x : A) → P x → P (f j x)) → P s → P (upTo f n s)
+  upTo-keeps P f n s h p = upTo-carries (λ (j : ℕ) (x : A). P x) f n s h p
