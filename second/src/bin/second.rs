@@ -1,0 +1,53 @@
+//! The second program: a session on standard input, its answers on standard
+//! output; or a view of the table on standard input.
+
+use second::lines::{digits, lines_of, part, step_program, table_of_lines};
+use second::table::FRAME_BYTES;
+use second::{frames_of, steps_of};
+use std::io::{self, Read, Write};
+use std::process::ExitCode;
+
+const USAGE: &str = "usage: second < SESSION
+       second view kind NUMBER < SESSION
+       second view steps NUMBER < SESSION";
+
+fn main() -> ExitCode {
+    let words: Vec<String> = std::env::args().skip(1).collect();
+    let words: Vec<&str> = words.iter().map(String::as_str).collect();
+    let answer = match words[..] {
+        [] => read_input().map(|input| step_program(&input, &mut ())),
+        ["view", which, number] => read_input().and_then(|input| view(&input, which, number)),
+        _ => Err(USAGE.to_string()),
+    };
+    match answer.and_then(|output| write_output(&output)) {
+        Ok(()) => ExitCode::SUCCESS,
+        Err(message) => {
+            eprintln!("{message}");
+            ExitCode::from(2)
+        }
+    }
+}
+
+fn read_input() -> Result<Vec<u8>, String> {
+    let mut input = Vec::new();
+    io::stdin().read_to_end(&mut input).map_err(|e| e.to_string())?;
+    Ok(input)
+}
+
+fn write_output(output: &[u8]) -> Result<(), String> {
+    io::stdout().write_all(output).map_err(|e| e.to_string())
+}
+
+/// The frames of a view of the table lines, a line of 24 digits each.
+fn view(input: &[u8], which: &str, number: &str) -> Result<Vec<u8>, String> {
+    let number: u32 = number.parse().map_err(|_| USAGE.to_string())?;
+    let lines = lines_of(input);
+    let table = table_of_lines(part(&lines).0).ok_or("a table line is malformed")?;
+    let view = match which {
+        "kind" => frames_of(&table, number),
+        "steps" => steps_of(&table, number),
+        _ => return Err(USAGE.to_string()),
+    };
+    let line = |frame: &[u8]| [digits(frame), vec![b'\n']].concat();
+    Ok(view.bytes.chunks(FRAME_BYTES).flat_map(line).collect())
+}

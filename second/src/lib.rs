@@ -1,0 +1,29 @@
+//! An independent second program for the function-block runtime, written from
+//! the build definition alone (called "the document" in all comments).
+//!
+//! The table is decoded once into structs with owner links and lists
+//! ([`model`]), the store into a typed state ([`store`]); the moves work on
+//! these ([`machine`]), and the calls translate back ([`calls`]).
+//!
+//! Where the document leaves a point open, the decision stands in one place,
+//! marked "Open point".
+
+pub mod arithmetic;
+pub mod calls;
+pub mod coverage;
+pub mod gen;
+pub mod lines;
+pub mod machine;
+pub mod model;
+pub mod renumber;
+pub mod rules;
+pub mod shrink;
+pub mod store;
+pub mod table;
+pub mod views;
+pub mod watch;
+
+pub use calls::{advance, arrival, load, run, Answer, Checked};
+pub use model::{check, Model};
+pub use rules::Refusal;
+pub use views::{frames_of, steps_of, View};

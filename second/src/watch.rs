@@ -1,0 +1,42 @@
+//! What the machine and the step program tell a watcher while they work. The
+//! watcher counts (see [`crate::coverage`]) and can change nothing.
+
+use crate::model::ElementKind;
+
+/// One thing that happened when running.
+#[derive(Clone, Copy, PartialEq, Eq, Debug)]
+pub enum Sight {
+    /// An event of an element of this kind was taken or, for a source, arrived.
+    Element(ElementKind),
+    /// A step with this operation number was executed.
+    Operation(u8),
+    /// A guard with this number was evaluated.
+    Guard(u8),
+    /// An input that waited already was given a new event.
+    Overwritten,
+    /// An interface fired into an input of an interface.
+    Chained,
+    /// START was taken while the delay was due already.
+    StartedAgain,
+    /// STOP was taken while the delay was due.
+    StoppedInTime,
+    /// A delay fired on advance.
+    Expired,
+    /// A record was written.
+    Record,
+    /// A run ended with this many moves and this stop number.
+    Stopped { moves: u32, stop: u8 },
+    /// A load or call was refused; for 2, 3 and 4 the kind byte of the frame.
+    Refused { number: u8, kind: Option<u8> },
+    /// A line of any other form or place, or a missing 82.
+    Malformed,
+}
+
+pub trait Watch {
+    fn see(&mut self, sight: Sight);
+}
+
+/// The watcher of those who want to know nothing.
+impl Watch for () {
+    fn see(&mut self, _: Sight) {}
+}
