@@ -1,12 +1,12 @@
 -- What a frame that has its form is known to have: the parts of refusal 2's test, each as a fact.
 use mathlib.Core.Path.{_≡_}
 use mathlib.Core.List.{List}
-use mathlib.Core.Bool.{Bool, true}
+use mathlib.Core.Bool.{true}
 use Prim.Native.Nat.{ℕ, _+_, _≤_, _<_}
 use native.Mathlib.Omega.{arith}
 use lib.Dec.{ltb, leb}
 use borrow.Author.Tests.{ltb-true, leb-true}
-use Rattle.walk.specs.Pick.{both, both-left, both-right}
+use Rattle.walk.specs.Pick.{both3, both5}
 use Rattle.walk.specs.All.{allTo, all-at, all-intro}
 use Rattle.frames.specs.Frame.{kindAt, flagAt}
 use Rattle.frames.specs.Place.{countTo, orderAt}
@@ -27,9 +27,6 @@ pub record Formed (T : List ℕ) (f : ℕ) : Type 0 where
   pub body : Body T f
 
 -- ---- laws
-both3 : (a b c : Bool) → both a (both b c) ≡ true → (a ≡ true) × (b ≡ true) × (c ≡ true)
-both3 a b c h = let r = both-right a (both b c) h in (both-left a (both b c) h, both-left b c r, both-right b c r)
-
 module _ (T : List ℕ) where
   pub body-formed : (f : ℕ) → bodyOk T f ≡ true → Body T f
   unfolding bodyOk
@@ -45,14 +42,13 @@ module _ (T : List ℕ) where
   formed f h =
       let k = kindAt T f in
       let room = ltb (countTo T k f) (formOf k .most) in
-      let w = both3 (leb 1 k) (leb k 11) (both (orderAt T f) (both room (bodyOk T f))) h in
-      let v = both3 (orderAt T f) room (bodyOk T f) (w .2) in
+      let w = both5 (leb 1 k) (leb k 11) (orderAt T f) room (bodyOk T f) h in
       record {
         low = leb-true _ _ (w .0);
         high = leb-true _ _ (w .1);
-        order = v .0;
-        room = ltb-true _ _ (v .1);
-        body = body-formed f (v .2);
+        order = w .2;
+        room = ltb-true _ _ (w .3);
+        body = body-formed f (w .4);
       }
 
   -- among frames that have their form, an element's id is its frame

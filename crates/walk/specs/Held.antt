@@ -1,15 +1,14 @@
 -- How many numbers pass a test one after another from 0 on, before the first that fails: what a pass over a table answers.
 use mathlib.Core.Path.{_≡_, refl, sym, ap, _∙_}
 use mathlib.Core.Bool.{Bool, true, false}
-use mathlib.Core.Logic.{_⊎_, inl, inr, ⊎-elim}
-use Prim.Native.Nat.{ℕ, zero, suc, _+_, _≤_, _<_}
+use mathlib.Core.Logic.{⊎-elim}
+use Prim.Native.Nat.{ℕ, zero, suc, _≤_, _<_}
 use native.Mathlib.Nat.{eq-or-lt-of-le, le-of-suc-le-suc, not-suc-le-zero}
 use native.Mathlib.Omega.{arith}
-use native.Mathlib.Numerals.{add-one}
 use lib.Dec.{eqb}
 use borrow.Author.Tests.{eq-eqb, ne-eqb}
-use Rattle.walk.specs.Pick.{pick, both, both-left, both-right, both-intro, both-failed, clash, test-cases, tri}
-use Rattle.walk.specs.All.{allTo, all-none, all-more, all-at, all-intro}
+use Rattle.walk.specs.Pick.{pick, both, both-intro, clash, tri}
+use Rattle.walk.specs.All.{allTo, all-at, all-intro}
 
 -- of the numbers below n
 unfoldable pub heldTo : (ℕ → Bool) → ℕ → ℕ
@@ -47,6 +46,13 @@ module _ (p : ℕ → Bool) where
   unfolding heldTo
   held zero = record { within = omega arith; before = λ i l. absurd (not-suc-le-zero l); stopped = λ l. absurd (not-suc-le-zero l) }
   held (suc n) = more n (heldTo p n) (held n)
+
+  -- what is known of the number that a pass answers
+  pub held-means : (n m : ℕ) → m ≡ heldTo p n → Held p n m
+  held-means n m e = rw e (held n)
+
+  pub held-all : (n m : ℕ) → m ≡ heldTo p n → allTo p m ≡ true
+  held-all n m e = all-intro p m (held-means n m e .before)
 
   -- and it is the only one
   pub held-one : (n a b : ℕ) → Held p n a → Held p n b → a ≡ b

@@ -58,6 +58,16 @@ both-right false b e = clash e
 pub both-intro : (a b : Bool) → a ≡ true → b ≡ true → both a b ≡ true
 both-intro a b p q = rw (p, q)
 
+-- the parts of a longer chain
+pub both3 : (a b c : Bool) → both a (both b c) ≡ true → (a ≡ true) × (b ≡ true) × (c ≡ true)
+both3 a b c h = let r = both-right a (both b c) h in (both-left a (both b c) h, both-left b c r, both-right b c r)
+
+pub both5 : (a b c d e : Bool) → both a (both b (both c (both d e))) ≡ true → (a ≡ true) × (b ≡ true) × (c ≡ true) × (d ≡ true) × (e ≡ true)
+both5 a b c d e h =
+    let w = both3 a b (both c (both d e)) h in
+    let v = both3 c d e (w .2) in
+    (w .0, w .1, v .0, v .1, v .2)
+
 -- a failed `both` failed at one of its sides
 pub both-failed : (a b : Bool) → both a b ≡ false → (a ≡ false) ⊎ ((a ≡ true) × (b ≡ false))
 both-failed true b e = inr (refl, e)
@@ -66,6 +76,10 @@ both-failed false b e = inl refl
 pub either-cases : (a b : Bool) → either a b ≡ true → (a ≡ true) ⊎ (b ≡ true)
 either-cases true b e = inl refl
 either-cases false b e = inr e
+
+pub either-else : (a b : Bool) → either a b ≡ true → a ≡ false → b ≡ true
+either-else true b e f = clash (sym f)
+either-else false b e f = e
 
 pub not-back : (a : Bool) → not a ≡ true → a ≡ false
 not-back true e = clash e

@@ -1,0 +1,92 @@
+// Parts of the caller's table.
+ghost use mathlib.Core.Path.{_≡_};
+ghost use Prim.Native.Nat.{_+_, _≤_};
+ghost use Rattle.frames.specs.Frame.{framesOf};
+ghost use Rattle.table.specs.View.{stretch as «stretchOf», IsPart, Within, kindSpan, stepSpan};
+use crate::Judged;
+use frames::frame::field;
+use frames::place::count;
+use frames::place::known;
+
+// So many frames from a frame on.
+pub struct Span {
+    pub first: usize,
+    pub count: usize,
+}
+
+const NOTHING: Span = Span { first: 0, count: 0 };
+
+// So many frames from `first` on; an empty stretch lies at the table's start.
+fn stretch(first: usize, count: usize) -> Span
+    ensures { λ r. ⌜ r ≡ stretchOf first count ⌝ }
+{
+    if count == 0 {
+        NOTHING
+    } else {
+        Span { first, count }
+    }
+}
+
+// Where the frames of kind k stand.
+fn kind_span(t: &[u8], k: usize) -> Span
+    ensures { λ r. ⌜ Within (now (t .entry)) (kindSpan (now (t .entry)) k) r ⌝ }
+{
+    let judged = crate::check(t);
+    let Judged::Sound(_) = judged else {
+        return NOTHING;
+    };
+    if k < 1 {
+        return NOTHING;
+    }
+    if 11 < k {
+        return NOTHING;
+    }
+    let at = known(t);
+    stretch(at[k], count(t, &at, k))
+}
+
+// Where the steps of an action stand.
+fn step_span(t: &[u8], id: usize) -> Span
+    ensures { λ r. ⌜ Within (now (t .entry)) (stepSpan (now (t .entry)) id) r ⌝ }
+{
+    let judged = crate::check(t);
+    let Judged::Sound(s) = judged else {
+        return NOTHING;
+    };
+    if s.actions - s.transitions <= id {
+        return NOTHING;
+    }
+    let p = s.transitions + id;
+    let n = field(t, p, 2);
+    if n == 0 {
+        return NOTHING;
+    }
+    Span {
+        first: s.actions + field(t, p, 1),
+        count: n,
+    }
+}
+
+// The stretch of the table that holds the frames of a span.
+fn part(t: &[u8], s: Span) -> &[u8]
+    requires { ⌜ s .first + s .count ≤ framesOf (now t) ⌝ }
+    ensures { λ r. ⌜ IsPart (t .entry) r s ⌝ }
+{
+    let a = 12 * s.first;
+    let e = a + 12 * s.count;
+    &t[a..e]
+}
+
+// The frames of a kind.
+pub fn frames_of(t: &[u8], k: usize) -> &[u8]
+    ensures { λ r. ⌜ IsPart (t .entry) r (kindSpan (now (t .entry)) k) ⌝ }
+{
+    part(t, kind_span(t, k))
+}
+
+// The steps of an action.
+pub fn steps_of(t: &[u8], id: usize) -> &[u8]
+    ensures { λ r. ⌜ IsPart (t .entry) r (stepSpan (now (t .entry)) id) ⌝ }
+{
+    part(t, step_span(t, id))
+}

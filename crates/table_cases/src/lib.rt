@@ -1,0 +1,1 @@
+// Definition cases of the table, proved by computation; there is no code.
