@@ -1,0 +1,4 @@
+pub mod Partner
+pub mod Carry
+pub mod Fire
+pub mod Untouched

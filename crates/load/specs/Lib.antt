@@ -1,0 +1,3 @@
+pub mod WellFormed
+pub mod Load
+pub mod Untouched

@@ -1,0 +1,52 @@
+-- What each way through advance and arrival leaves, over plain variables.
+use mathlib.Core.Path.{_≡_, refl, sym, ap, _∙_}
+use mathlib.Core.List.{List}
+use mathlib.Core.Bool.{Bool, true, false}
+use Prim.Native.Nat.{ℕ, _+_, _<_, _≤_}
+use native.Mathlib.Omega.{arith}
+use lib.ListN.{getD}
+use Rattle.walk.specs.Choose.{choose, choose-true, choose-false}
+use Rattle.walk.specs.Count.{countIf}
+use Rattle.walk.specs.First.{Sought, one, missing, first-in}
+use Rattle.frames.specs.Frame.{fieldAt}
+use Rattle.table.specs.declared.Shape.{Shape}
+use Rattle.store.specs.Layout.{outputs, associationFrame}
+use Rattle.store.specs.Word.{putDue, putValue}
+use Rattle.owned.specs.declared.Found.{Found}
+use Rattle.owned.specs.declared.Found.the-variants.{One, Missing}
+use Rattle.owned.specs.Owned.{any, isNth, nth, foundOf, found-one, found-missing}
+use Rattle.fire.specs.Carry.{voice, speaks}
+use Rattle.fire.specs.Fire.{fire}
+use Rattle.take.specs.Take.{fireFound}
+use Rattle.run.specs.Calls.{dueAt, expired, expire, give}
+
+module _ (T : List ℕ) (S : Shape) (t el : ℕ) (s s′ : List ℕ) where
+  pub expire-due : {b : Bool} → b ≡ dueAt s t el → b ≡ true → s′ ≡ expired T S t el s → s′ ≡ expire T S t el s
+  unfolding expire
+  expire-due p q u = rw (choose-true _ _ _ (sym p ∙ q)) u
+
+  pub expire-not : {b : Bool} → b ≡ dueAt s t el → b ≡ false → s′ ≡ s → s′ ≡ expire T S t el s
+  unfolding expire
+  expire-not p q u = rw (choose-false _ _ _ (sym p ∙ q)) u
+
+  module _ {n : ℕ} (many : n ≡ outputs S) {f : Found} (found : f ≡ foundOf (nth T (S .inputs) n any el 0)) where
+    pub output-missing : f ≡ Missing → s′ ≡ putDue el 0 0 s → s′ ≡ expired T S t el s
+    unfolding expired fireFound
+    output-missing m u = let e : nth T (S .inputs) (outputs S) any el 0 ≡ missing = rw many at (found-missing (nth T (S .inputs) n any el 0) _ found m) in rw e u
+
+    pub output-fired : (o : ℕ) {s₁ : List ℕ} → f ≡ One o → s₁ ≡ fire T S o t t s → s′ ≡ putDue el 0 0 s₁ → s′ ≡ expired T S t el s
+    unfolding expired fireFound
+    output-fired o m p u =
+        let e : nth T (S .inputs) (outputs S) any el 0 ≡ one o = rw many at (found-one (nth T (S .inputs) n any el 0) _ o found m) in rw (e, ← p) u
+
+pub output-known : (T : List ℕ) (S : Shape) (el n o : ℕ) {f : Found} → n ≡ outputs S → f ≡ foundOf (nth T (S .inputs) n any el 0) → f ≡ One o → o < outputs S
+output-known T S el n o e p m = let h = first-in (isNth T (S .inputs) any el 0) 0 n o (found-one (nth T (S .inputs) n any el 0) _ o p m) in omega arith
+
+module _ (T : List ℕ) (S : Shape) (o : ℕ) (vs : List ℕ) (j : ℕ) (s s′ : List ℕ) {b : Bool} (told : b ≡ speaks T S (voice 1 o) j) where
+  pub give-one : {v k : ℕ} → b ≡ true → v ≡ fieldAt T (associationFrame S j) 1 → k ≡ countIf (speaks T S (voice 1 o)) j → s′ ≡ putValue S v (getD vs k 0) s → s′ ≡ give T S o vs j s
+  unfolding give
+  give-one q r a u = rw (choose-true _ _ _ (sym told ∙ q), ← r, ← a) u
+
+  pub give-none : b ≡ false → s′ ≡ s → s′ ≡ give T S o vs j s
+  unfolding give
+  give-none q u = rw (choose-false _ _ _ (sym told ∙ q)) u

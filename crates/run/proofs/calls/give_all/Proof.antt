@@ -1,0 +1,97 @@
+-- `give_all` meets its contract. The invariant: k counts the associations passed that speak, and the store is what they made of it.
+use Rattle.run.proofs.calls.give_all.Statement.{statement}
+use Rattle.walk.specs.Count.{countIf, count-none, count-hit, count-miss, count-past}
+use Rattle.walk.specs.Walk.{upTo, upTo-none, upTo-more, upTo-end}
+use Rattle.store.specs.Layout.{associations}
+use Rattle.fire.specs.Carry.{voice, speaks}
+use Rattle.run.specs.Calls.{give, associated}
+use Rattle.run.proofs.Turns.{give-one, give-none}
+use borrow.Author.Needs.{needs}
+use denote.Ref.{now}
+use lib.ListN.{length}
+use mathlib.Core.Logic.{⊎-elim}
+use mathlib.Core.Path.{_≡_, refl, sym, ap, _∙_}
+use native.Mathlib.Omega.{arith}
+use Prim.Native.Nat.{ℕ, _≤_, _<_, _-_, _+_}
+use Rattle.run.proofs.calls.give_all.Tie as tie
+
+abbrev Inv-loop : tie.InvT-loop
+Inv-loop t store₀ s o values n w k₀ j₀ store k j = (j ≤ associations s) × (k ≡ countIf (speaks t s (voice 1 o)) j) × (store ≡ upTo (give t s o values) j store₀) × (length store ≡ length store₀) × (k ≤ j)
+
+abbrev μ-loop : tie.MeasureT-loop
+μ-loop t store₀ s o values n w k₀ j₀ store k j = associations s - j
+
+associations-requires : tie.Need-associations-requires Inv-loop μ-loop
+associations-requires c κs = search needs
+
+loop-holds : tie.Need-loop-holds Inv-loop μ-loop
+loop-holds c = (search needs, sym (count-none _), upTo-none _ _, refl, search needs)
+
+speaks-requires : tie.Need-speaks-requires Inv-loop μ-loop
+speaks-requires c κs = search needs
+
+add-field : tie.Need-add-field Inv-loop μ-loop
+add-field c = search needs
+
+field-requires : tie.Need-field-requires Inv-loop μ-loop
+field-requires c κs = search needs
+
+mul-put-value : tie.Need-mul-put-value Inv-loop μ-loop
+mul-put-value c = search needs
+
+shared-slice-read-put-value : tie.Need-shared-slice-read-put-value Inv-loop μ-loop
+unfolding associated
+shared-slice-read-put-value c =
+    let l = c .before .before .before .before .before .before .before .loop in
+    let lt : l .j < associations (c .before .before .before .before .before .before .before .before .before .before .before .before .args .s) = omega arith in
+    let p = count-past (speaks (now (c .before .before .before .before .before .before .before .before .before .before .before .before .args .t)) (c .before .before .before .before .before .before .before .before .before .before .before .before .args .s) (voice 1 (c .before .before .before .before .before .before .before .before .before .before .before .before .args .o))) (l .j) (associations (c .before .before .before .before .before .before .before .before .before .before .before .before .args .s)) lt (sym (c .before .before .before .before .before .speaks .ensures) ∙ c .before .before .before .before .if1 .taken) in
+    let q = c .before .before .before .before .before .before .before .before .before .before .before .before .pre .1 in
+    omega arith
+
+put-value-requires : tie.Need-put-value-requires Inv-loop μ-loop
+put-value-requires c κs = search needs
+
+add-k : tie.Need-add-k Inv-loop μ-loop
+add-k c = search needs
+
+add-j : tie.Need-add-j Inv-loop μ-loop
+add-j c = search needs
+
+loop-less : tie.Need-loop-less Inv-loop μ-loop
+loop-less c = search needs
+
+loop-again : tie.Need-loop-again Inv-loop μ-loop
+loop-again c =
+    let l = c .before .before .before .loop in
+    let h = c .before .speaks .ensures in
+    ⊎-elim
+    (λ w. (omega arith, w .9 ∙ ap (λ (n : ℕ). n + 1) (l .inv .1) ∙ sym (count-hit _ (l .j) (sym h ∙ w .0 .taken)), upTo-more _ _ _ _ _ (l .inv .2) (give-one _ _ _ _ _ _ _ h (w .0 .taken) (w .3 .ensures .0) (l .inv .1) (w .8 ∙ w .5 .ensures)), omega (arith, ap length (w .8)), omega arith))
+    (λ w. (omega arith, w .2 ∙ l .inv .1 ∙ sym (count-miss _ (l .j) (sym h ∙ w .0 .left)), upTo-more _ _ _ _ _ (l .inv .2) (give-none _ _ _ _ _ _ _ h (w .0 .left) (w .1)), omega (arith, ap length (w .1)), omega arith))
+    (c .if1 .came)
+
+same-length : tie.Need-same-length Inv-loop μ-loop
+same-length c = search needs
+
+returns : tie.Need-returns Inv-loop μ-loop
+returns c = upTo-end _ _ _ _ _ (c .before .loop .inv .2) (omega arith)
+
+pub give-all-spec : {M : Type 1} → statement M
+give-all-spec =
+    tie.close
+    (tie.spec
+    Inv-loop
+    μ-loop
+    associations-requires
+    loop-holds
+    speaks-requires
+    add-field
+    field-requires
+    mul-put-value
+    shared-slice-read-put-value
+    put-value-requires
+    add-k
+    add-j
+    loop-less
+    loop-again
+    same-length
+    returns)

@@ -1,0 +1,77 @@
+// Run makes moves until no move exists (1), else the next move's record has no room (3), else the budget is used (2).
+ghost use mathlib.Core.Path.{_≡_};
+ghost use Prim.Native.Nat.{_+_, _<_, _≤_};
+ghost use lib.ListN.{length};
+ghost use lib.Seq.{sets};
+ghost use Rattle.store.specs.Good.{Good};
+ghost use mathlib.Core.Bool.{not};
+ghost use Rattle.moves.specs.Next.{moves};
+ghost use Rattle.run.specs.Run.{asked as «askedOf», Done};
+use moves::Next;
+use moves::make;
+use moves::next_move;
+use moves::size;
+use table::Shape;
+
+// What a run tells: the moves made, the bytes written, and why no more were made.
+pub struct Ran {
+    pub moves: u32,
+    pub bytes: usize,
+    pub stop: u32,
+}
+
+// There is no move.
+fn still(next: Next) -> bool
+    ensures { λ r. ⌜ r ≡ not (moves next) ⌝ }
+{
+    match next {
+        Next::Take(_) => false,
+        Next::Block(_) => false,
+        Next::Still => true,
+    }
+}
+
+// After n moves, with `at` bytes written: why the run stops here, or 0. The next move writes z bytes.
+fn asked(next: Next, z: usize, at: usize, room: usize, n: u32, budget: u32) -> u32
+    requires { ⌜ at ≤ room ⌝ }
+    ensures { λ r. ⌜ r ≡ askedOf next z at room n budget ⌝ }
+{
+    if still(next) {
+        return 1;
+    }
+    if room - at < z {
+        return 3;
+    }
+    if n < budget { 0 } else { 2 }
+}
+
+// The number of moves is that of the defined machine between entry and exit store, and so are the bytes.
+pub fn run_moves(
+    t: &[u8],
+    store: &mut [u32],
+    s: Shape,
+    time: u32,
+    budget: u32,
+    out: &mut [u8],
+) -> Ran
+    requires { ⌜ Good (now t) s × (time < 2147483648) ⌝ }
+    ensures { λ r. ⌜ Done (now (t .entry)) s time budget (now (store .entry)) (now (out .entry)) r (now (store .exit)) (now (out .exit)) ⌝ }
+{
+    let mut n: u32 = 0;
+    let mut at: usize = 0;
+    loop {
+        let next = next_move(t, store, s);
+        let z = size(t, s, next);
+        let stop = asked(next, z, at, out.len(), n, budget);
+        if stop != 0 {
+            break Ran {
+                moves: n,
+                bytes: at,
+                stop,
+            };
+        }
+        make(t, store, s, time, next, out, at);
+        at += z;
+        n += 1;
+    }
+}

@@ -1,0 +1,64 @@
+-- An accepted table is good to run with its shape.
+use mathlib.Core.Path.{_≡_, refl, sym, ap, _∙_}
+use mathlib.Core.List.{List}
+use mathlib.Core.Logic.{⊎-elim}
+use Prim.Native.Nat.{ℕ, _+_, _-_, _≤_, _<_}
+use native.Mathlib.Omega.{arith}
+use Rattle.walk.specs.Pick.{tri}
+use Rattle.frames.specs.Kind.{element, eventInput, eventOutput, variable, association, action, step, eventConnection, dataConnection, none}
+use Rattle.frames.specs.Frame.{kindAt, flagAt, fieldAt, framesOf}
+use Rattle.frames.specs.Place.{countOf, startOf}
+use Rattle.table.specs.Judge.{shapeOf}
+use Rattle.table.specs.Accepted.{Accepted}
+use Rattle.store.specs.Layout.{inputs, outputs, variables, associations, states, transitions, actions, steps, connections, links}
+use Rattle.store.specs.Good.{Good}
+
+module _ (T : List ℕ) (a : Accepted T) where
+  -- the number of each kind, by the shape
+  elements-many : startOf T 2 ≡ countOf T element
+  elements-many = omega (arith, a .next 1, a .first)
+
+  -- the variable of an association, whichever flag it has
+  associated : (f : ℕ) → f < framesOf T → kindAt T f ≡ association → fieldAt T f 1 < countOf T variable
+  associated f l k =
+      let w = a .form f l .body .flag in
+      let h : flagAt T f ≤ 1 = rw k at w in
+      ⊎-elim (λ z. a .input-association f l k (omega arith) .owned .exists)
+      (λ c. ⊎-elim (λ e. a .output-association f l k e .owned .exists) (λ g. absurd (omega arith)) c) (tri (flagAt T f) 1)
+
+  pub good : Good T (shapeOf T)
+  unfolding inputs outputs variables associations states transitions actions steps connections links
+  good =
+      record {
+        few = a .most;
+        few-elements = let l = a .limit 1 (omega arith) (omega arith) in omega (arith, elements-many);
+        few-inputs = let l = a .limit 2 (omega arith) (omega arith) in omega (arith, a .next 2);
+        few-outputs = let l = a .limit 3 (omega arith) (omega arith) in omega (arith, a .next 3);
+        few-variables = let l = a .limit 4 (omega arith) (omega arith) in omega (arith, a .next 4);
+        to-inputs = omega (arith, a .next 2);
+        to-outputs = omega (arith, a .next 3);
+        to-variables = omega (arith, a .next 4);
+        to-associations = omega (arith, a .next 5);
+        to-states = omega (arith, a .next 6);
+        to-transitions = omega (arith, a .next 7);
+        to-actions = omega (arith, a .next 8);
+        to-steps = omega (arith, a .next 9);
+        to-connections = omega (arith, a .next 10);
+        to-links = omega (arith, a .next 11);
+        to-end = omega (arith, a .total);
+        input-element = λ i l. let w = a .found 2 i (omega (arith, a .next 2)) in let h = a .event-input _ (w .in-table) (w .kind) in omega (arith, elements-many);
+        output-element = λ o l. let w = a .found 3 o (omega (arith, a .next 3)) in let h = a .event-output _ (w .in-table) (w .kind) in omega (arith, elements-many);
+        variable-element = λ v l. let w = a .found 4 v (omega (arith, a .next 4)) in let h = a .variable-of _ (w .in-table) (w .kind) in omega (arith, elements-many);
+        association-variable = λ j l. let w = a .found 5 j (omega (arith, a .next 5)) in let h = associated _ (w .in-table) (w .kind) in omega (arith, a .next 4);
+        action-steps =
+            λ j k l h.
+            let w = a .found 8 j (omega (arith, a .next 8)) in
+            let p = a .action-of _ (w .in-table) (w .kind) .steps (λ z. omega arith) in
+            omega (arith, a .next 9);
+        action-event =
+            λ j l n. let w = a .found 8 j (omega (arith, a .next 8)) in let h = a .action-of _ (w .in-table) (w .kind) .event n .exists in omega (arith, a .next 3);
+        step-result = λ j l. let w = a .found 9 j (omega (arith, a .next 9)) in let h = a .step-of _ (w .in-table) (w .kind) .result .exists in omega (arith, a .next 4);
+        connection-input = λ j l. let w = a .found 10 j (omega (arith, a .next 10)) in let h = a .event-connection _ (w .in-table) (w .kind) .input in omega (arith, a .next 2);
+        link-source = λ j l. let w = a .found 11 j (omega (arith, a .next 11)) in let h = a .data-connection _ (w .in-table) (w .kind) .source .exists in omega (arith, a .next 4);
+        link-destination = λ j l. let w = a .found 11 j (omega (arith, a .next 11)) in let h = a .data-connection _ (w .in-table) (w .kind) .destination .exists in omega (arith, a .next 4);
+      }

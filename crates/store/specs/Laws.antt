@@ -1,0 +1,58 @@
+-- Laws of the words: what a writer leaves to the readers of other words. A change of the layout is felt here and nowhere above.
+use mathlib.Core.Path.{_≡_, _∙_}
+use mathlib.Core.List.{List}
+use Prim.Native.Nat.{ℕ, _+_, _≤_, _<_}
+use native.Mathlib.Omega.{arith}
+use lib.ListN.{getD, set}
+use lib.Seq.{getD-set-other}
+use Rattle.table.specs.declared.Shape.{Shape}
+use Rattle.store.specs.Layout.{inputs, inputAt, variableAt}
+use Rattle.store.specs.Word.{putOverwritten, putInput, value, buffer, putBuffer}
+
+-- the words of the variables lie past all others
+module _ (S : Shape) (p : ℕ) (past : variableAt S 0 ≤ p) where
+  past-putOverwritten : (s : List ℕ) (n : ℕ) → getD (putOverwritten n s) p 0 ≡ getD s p 0
+  unfolding putOverwritten variableAt
+  past-putOverwritten s n = getD-set-other s 8 p n 0 (λ e. omega arith)
+
+  past-putInput : (s : List ℕ) (i flag birth last : ℕ) → i < inputs S → getD (putInput S i flag birth last s) p 0 ≡ getD s p 0
+  unfolding putInput inputAt variableAt
+  past-putInput s i flag birth last l =
+      getD-set-other (set (set s (inputAt S i) flag) (inputAt S i + 1) birth) (inputAt S i + 2) p last 0 (λ e. omega arith)
+      ∙ getD-set-other (set s (inputAt S i) flag) (inputAt S i + 1) p birth 0 (λ e. omega arith)
+      ∙ getD-set-other s (inputAt S i) p flag 0 (λ e. omega arith)
+
+module _ (S : Shape) where
+  value-past : (v : ℕ) → variableAt S 0 ≤ variableAt S v
+  unfolding variableAt
+  value-past v = omega arith
+
+  buffer-past : (v : ℕ) → variableAt S 0 ≤ variableAt S v + 1
+  unfolding variableAt
+  buffer-past v = omega arith
+
+  -- ---- the buffer of a variable
+  pub buffer-putBuffer : (s : List ℕ) (v u x : ℕ) → (u ≡ v → ⊥) → buffer S (putBuffer S v x s) u ≡ buffer S s u
+  unfolding buffer putBuffer variableAt
+  buffer-putBuffer s v u x h = getD-set-other s (variableAt S v + 1) (variableAt S u + 1) x 0 (λ e. h (omega arith))
+
+  pub buffer-putOverwritten : (s : List ℕ) (n u : ℕ) → buffer S (putOverwritten n s) u ≡ buffer S s u
+  unfolding buffer
+  buffer-putOverwritten s n u = past-putOverwritten S (variableAt S u + 1) (buffer-past u) s n
+
+  pub buffer-putInput : (s : List ℕ) (i flag birth last u : ℕ) → i < inputs S → buffer S (putInput S i flag birth last s) u ≡ buffer S s u
+  unfolding buffer
+  buffer-putInput s i flag birth last u l = past-putInput S (variableAt S u + 1) (buffer-past u) s i flag birth last l
+
+  -- ---- the value of a variable
+  pub value-putBuffer : (s : List ℕ) (v u x : ℕ) → value S (putBuffer S v x s) u ≡ value S s u
+  unfolding value putBuffer variableAt
+  value-putBuffer s v u x = getD-set-other s (variableAt S v + 1) (variableAt S u) x 0 (λ e. omega arith)
+
+  pub value-putOverwritten : (s : List ℕ) (n u : ℕ) → value S (putOverwritten n s) u ≡ value S s u
+  unfolding value
+  value-putOverwritten s n u = past-putOverwritten S (variableAt S u) (value-past u) s n
+
+  pub value-putInput : (s : List ℕ) (i flag birth last u : ℕ) → i < inputs S → value S (putInput S i flag birth last s) u ≡ value S s u
+  unfolding value
+  value-putInput s i flag birth last u l = past-putInput S (variableAt S u) (value-past u) s i flag birth last l

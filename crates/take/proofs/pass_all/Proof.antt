@@ -1,0 +1,76 @@
+-- `pass_all` meets its contract. The invariant: the store is what the associations passed made of it.
+use Rattle.take.proofs.pass_all.Statement.{statement}
+use Rattle.walk.specs.Walk.{upTo, upTo-none, upTo-more, upTo-end}
+use Rattle.store.specs.Layout.{associations}
+use Rattle.take.specs.Take.{pass}
+use Rattle.take.proofs.Turns.{pass-take, pass-skip}
+use borrow.Author.Needs.{needs}
+use lib.ListN.{length}
+use mathlib.Core.Logic.{⊎-elim}
+use mathlib.Core.Path.{_≡_, refl, ap, _∙_}
+use native.Mathlib.Omega.{arith}
+use Prim.Native.Nat.{_≤_, _-_}
+use Rattle.take.proofs.pass_all.Tie as tie
+
+abbrev Inv-loop : tie.InvT-loop
+Inv-loop t store₀ s i n w j₀ store j = (j ≤ associations s) × (store ≡ upTo (pass t s i) j store₀) × (length store ≡ length store₀)
+
+abbrev μ-loop : tie.MeasureT-loop
+μ-loop t store₀ s i n w j₀ store j = associations s - j
+
+associations-requires : tie.Need-associations-requires Inv-loop μ-loop
+associations-requires c κs = search needs
+
+loop-holds : tie.Need-loop-holds Inv-loop μ-loop
+loop-holds c = (search needs, upTo-none _ _, refl)
+
+speaks-requires : tie.Need-speaks-requires Inv-loop μ-loop
+speaks-requires c κs = search needs
+
+add-field : tie.Need-add-field Inv-loop μ-loop
+add-field c = search needs
+
+field-requires : tie.Need-field-requires Inv-loop μ-loop
+field-requires c κs = search needs
+
+pass-requires : tie.Need-pass-requires Inv-loop μ-loop
+pass-requires c κs = (c .before .before .before .before .before .before .before .before .before .before .pre, omega (arith, c .field .ensures .0, c .before .before .before .before .before .before .before .before .before .before .pre .association-variable (c .before .before .before .before .before .before .loop .j) (omega arith)))
+
+add-j : tie.Need-add-j Inv-loop μ-loop
+add-j c = search needs
+
+loop-less : tie.Need-loop-less Inv-loop μ-loop
+loop-less c = search needs
+
+loop-again : tie.Need-loop-again Inv-loop μ-loop
+loop-again c =
+    let l = c .before .before .before .loop in
+    let h = c .before .speaks .ensures in
+    ⊎-elim
+    (λ w. (omega arith, upTo-more _ _ _ _ _ (l .inv .1) (pass-take _ _ _ _ _ _ h (w .0 .taken) (w .3 .ensures .0) (w .7 ∙ w .4 .ensures)), omega (arith, ap length (w .7))))
+    (λ w. (omega arith, upTo-more _ _ _ _ _ (l .inv .1) (pass-skip _ _ _ _ _ _ h (w .0 .left) (w .1)), omega (arith, ap length (w .1))))
+    (c .if1 .came)
+
+same-length : tie.Need-same-length Inv-loop μ-loop
+same-length c = search needs
+
+returns : tie.Need-returns Inv-loop μ-loop
+returns c = upTo-end _ _ _ _ _ (c .before .loop .inv .1) (omega arith)
+
+pub pass-all-spec : {M : Type 1} → statement M
+pass-all-spec =
+    tie.close
+    (tie.spec
+    Inv-loop
+    μ-loop
+    associations-requires
+    loop-holds
+    speaks-requires
+    add-field
+    field-requires
+    pass-requires
+    add-j
+    loop-less
+    loop-again
+    same-length
+    returns)
