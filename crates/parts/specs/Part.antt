@@ -4,9 +4,10 @@ use mathlib.Core.List.{List}
 use mathlib.Core.Bool.{Bool, true, false}
 use Prim.Native.Nat.{ℕ, _+_, _≤_, _<_}
 use native.Mathlib.Omega.{arith}
+use lib.Dec.{eqb}
 use lib.ListN.{length, getD, set, length-set}
 use lib.Seq.{getD-set-other}
-use Rattle.walk.specs.Pick.{clash}
+use Rattle.walk.specs.Pick.{either}
 use Rattle.frames.specs.Frame.{flagAt}
 use Rattle.table.specs.declared.Shape.{Shape}
 use Rattle.store.specs.Layout.{need, inputs, variables, variableFrame, elementAt, inputAt}
@@ -23,6 +24,28 @@ pub data Part : Type 0 where
   input : Part
   sampled : Part
   buffered : Part
+
+-- ---- sets of parts
+abbrev code : Part → ℕ
+code time = 0
+code block = 1
+code count = 2
+code chart = 3
+code due = 4
+code input = 5
+code sampled = 6
+code buffered = 7
+
+-- this part alone
+abbrev pub just : Part → Part → Bool
+just a p = eqb (code a) (code p)
+
+-- one part more
+abbrev pub also : Part → (Part → Bool) → Part → Bool
+also a f p = either (just a p) (f p)
+
+abbrev pub everything : Part → Bool
+everything p = true
 
 -- ---- stores that agree in a part
 pub record SameBlock (s s′ : List ℕ) : Type 0 where

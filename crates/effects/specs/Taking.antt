@@ -1,0 +1,160 @@
+-- What taking an event does to the values of variables, and what it leaves.
+use mathlib.Core.Path.{_≡_, refl, sym, ap, _∙_}
+use mathlib.Core.List.{List}
+use mathlib.Core.Bool.{Bool, true, false}
+use Prim.Native.Nat.{ℕ, zero, suc, _+_, _≤_, _<_}
+use native.Mathlib.Omega.{arith}
+use lib.Dec.{eqb}
+use lib.ListN.{length}
+use borrow.Author.Tests.{eqb-true, eqb-false}
+use Rattle.walk.specs.Pick.{both, either, either-false, either-true, both-left, clash}
+use Rattle.walk.specs.Choose.{choose, by-choose}
+use Rattle.walk.specs.All.{anyTo}
+use Rattle.walk.specs.First.{Sought, one, missing, First, first-means}
+use Rattle.walk.specs.Walk.{upTo, upTo-keeps, upTo-carries}
+use Rattle.frames.specs.Frame.{flagAt, fieldAt}
+use Rattle.table.specs.declared.Shape.{Shape}
+use Rattle.store.specs.Layout.{need, inputs, variables, associations, associationFrame, variableFrame}
+use Rattle.store.specs.Running.{awake}
+use Rattle.store.specs.Word.{putOwner, putRunning, putDue, putInput, value, putValue, buffer}
+use Rattle.store.specs.Laws.{buffer-putInput, value-putInput}
+use Rattle.parts.specs.Part.{Part, block, count, due, input, sampled as «samples-part», buffered, just, also, everything, Leaves, leaves-all, leaves-then}
+use Rattle.parts.specs.Writer.{leaves-owner, leaves-running, leaves-due, leaves-input, leaves-value}
+use Rattle.parts.specs.Own.{value-put, value-other, buffer-value}
+use Rattle.owned.specs.Owned.{any, belongs, rank, isNth}
+use Rattle.fire.specs.Partner.{partnerOutput, partnerVariable, variableOwner}
+use Rattle.fire.specs.Carry.{voice, speaks}
+use Rattle.fire.specs.Fire.{fire}
+use Rattle.take.specs.Take.{sample, samples, sampled, passTo, pass, passes, fireFound, relay, dtOf, isStart, delay, wake}
+use Rattle.effects.specs.Joined.{joins, associated}
+use Rattle.effects.specs.Lawful.{Lawful}
+use Rattle.effects.specs.Firing.{fire-leaves}
+
+-- an interface's partner is one of its output variables
+pub partner-output : (T : List ℕ) (S : Shape) (v u : ℕ) → partnerVariable T S v ≡ one u → (u < variables S) × (flagAt T (variableFrame S u) ≡ 1)
+unfolding partnerVariable isNth belongs
+partner-output T S v u e =
+    let x = variableOwner T S v in
+    let n = rank T (S .outputs) 0 x v in
+    let w = first-means (isNth T (S .outputs) 1 x n) 0 (variables S) u e in
+    let h = both-left (belongs T (S .outputs) 1 x u) (eqb (rank T (S .outputs) 1 x u) n) (w .passes) in
+    let g = both-left (eqb (flagAt T (S .outputs + u)) 1) (eqb (fieldAt T (S .outputs + u) 0) x) h in
+    (let b = w .below in omega arith, eqb-true (flagAt T (variableFrame S u)) 1 g)
+
+module _ (T : List ℕ) (S : Shape) (k : Lawful T S) where
+  -- ---- what it leaves
+  module _ (f : Part → Bool) where
+    sample-leaves : f «samples-part» ≡ true → (i j : ℕ) (s : List ℕ) → j < associations S → Leaves T S f s (sample T S i j s)
+    unfolding sample
+    sample-leaves e i j s l =
+        let v = fieldAt T (associationFrame S j) 1 in
+        by-choose (Leaves T S f s) (speaks T S (voice 0 i) j) (putValue S v (buffer S s v) s) s
+        (λ _. leaves-value T S f s v (buffer S s v) (k .is-good .association-variable j l) (λ h. clash (sym h ∙ e))) (λ _. leaves-all T S f s)
+
+    pub sampled-leaves : f «samples-part» ≡ true → f input ≡ true → (i : ℕ) (s : List ℕ) → i < inputs S → Leaves T S f s (sampled T S i s)
+    unfolding sampled
+    sampled-leaves e wr i s l =
+        let y = putInput S i 0 0 0 s in
+        upTo-keeps (Leaves T S f s) (sample T S i) (associations S) y
+        (λ j h x w. leaves-then T S f s x (sample T S i j x) (sample-leaves e i j x h) w) (leaves-input T S f s i 0 0 0 l wr)
+
+    -- values that go to partners are no inputs
+    pass-to-leaves : (q : Sought) (v : ℕ) (s : List ℕ) → ((u : ℕ) → q ≡ one u → (u < variables S) × (flagAt T (variableFrame S u) ≡ 1)) → Leaves T S f s (passTo S q v s)
+    unfolding passTo
+    pass-to-leaves (one u) v s h =
+        let w = h u refl in
+        leaves-value T S f s u (value S s v) (w .0) (λ _ z. let q = sym z ∙ w .1 in omega arith)
+    pass-to-leaves missing v s h = leaves-all T S f s
+
+    pass-leaves : (i j : ℕ) (s : List ℕ) → Leaves T S f s (pass T S i j s)
+    unfolding pass
+    pass-leaves i j s =
+        let v = fieldAt T (associationFrame S j) 1 in
+        by-choose (Leaves T S f s) (speaks T S (voice 0 i) j) (passTo S (partnerVariable T S v) v s) s
+        (λ _. pass-to-leaves (partnerVariable T S v) v s (partner-output T S v)) (λ _. leaves-all T S f s)
+
+    pub passes-leaves : (i : ℕ) (s : List ℕ) → Leaves T S f s (passes T S i s)
+    passes-leaves i s =
+        upTo-keeps (Leaves T S f s) (pass T S i) (associations S) s
+        (λ j h x w. leaves-then T S f s x (pass T S i j x) (pass-leaves i j x) w) (leaves-all T S f s)
+
+    pub delay-leaves : f due ≡ true → (el i t : ℕ) (s : List ℕ) → el < S .elements → Leaves T S f s (delay T S el i t s)
+    unfolding delay
+    delay-leaves e el i t s l =
+        by-choose (Leaves T S f s) (isStart T S el i) (putDue el 1 (t + dtOf T S el s) s) (putDue el 0 0 s)
+        (λ _. leaves-due T S f s el 1 (t + dtOf T S el s) l e) (λ _. leaves-due T S f s el 0 0 l e)
+
+    pub wake-leaves : f block ≡ true → (el i birth : ℕ) (s : List ℕ) → Leaves T S f s (wake el i birth s)
+    unfolding wake
+    wake-leaves e el i birth s =
+        let y = putOwner (el + 1) (i + 1) s in
+        leaves-then T S f s y (putRunning (awake birth) y) (leaves-running T S f y (awake birth) e) (leaves-owner T S f s (el + 1) (i + 1) e)
+
+  -- ---- the value of a variable: what its buffer holds where it is associated with the event, else as before
+  module _ (i v : ℕ) (s : List ℕ) where
+    record Sampled (b : Bool) (x : List ℕ) : Type 0 where
+      pub long : need S ≤ length x
+      pub buffers : (u : ℕ) → buffer S x u ≡ buffer S s u
+      pub is : value S x v ≡ choose b (buffer S s v) (value S s v)
+
+    turn : (x : List ℕ) (b : Bool) (j : ℕ) → j < associations S → Sampled b x → Sampled (either b (joins T S i v j)) (sample T S i j x)
+    unfolding joins sample choose
+    turn x b j l m =
+        by (speaks T S (voice 0 i) j) (eqb (fieldAt T (associationFrame S j) 1) v) refl
+      where
+        u : ℕ
+        u = fieldAt T (associationFrame S j) 1
+
+        y : List ℕ
+        y = putValue S u (buffer S x u) x
+
+        long′ : need S ≤ length y
+        long′ = let a = m .long in let q = leaves-value T S everything x u (buffer S x u) (k .is-good .association-variable j l) (λ h. clash (sym h)) .long in omega arith
+
+        by : (c d : Bool) → eqb u v ≡ d → Sampled (either b (both c d)) (choose c y x)
+        by true true e =
+            let q = eqb-true u v e in
+            record {
+              long = long′;
+              buffers = λ w. buffer-value S x u w (buffer S x u) ∙ m .buffers w;
+              is =
+                  ap (λ (a : ℕ). value S y a) (sym q) ∙ value-put S x (m .long) u (buffer S x u) (k .is-good .association-variable j l) ∙ m .buffers u
+                  ∙ ap (buffer S s) q ∙ sym (ap (λ (a : Bool). choose a (buffer S s v) (value S s v)) (either-true b));
+            }
+        by true false e =
+            record {
+              long = long′;
+              buffers = λ w. buffer-value S x u w (buffer S x u) ∙ m .buffers w;
+              is =
+                  value-other S x u v (buffer S x u) (λ q. eqb-false u v e (sym q)) ∙ m .is
+                  ∙ sym (ap (λ (a : Bool). choose a (buffer S s v) (value S s v)) (either-false b));
+            }
+        by false d e =
+            record {
+              long = m .long;
+              buffers = m .buffers;
+              is = m .is ∙ sym (ap (λ (a : Bool). choose a (buffer S s v) (value S s v)) (either-false b));
+            }
+
+    samples-value : need S ≤ length s → value S (samples T S i s) v ≡ choose (associated T S i v) (buffer S s v) (value S s v)
+    unfolding anyTo choose
+    samples-value long =
+        let w =
+          upTo-carries (λ (n : ℕ) (x : List ℕ). Sampled (anyTo (joins T S i v) n) x) (sample T S i) (associations S) s
+          (λ j l x m. turn x (anyTo (joins T S i v) j) j l m)
+          (record { long = long; buffers = λ u. refl; is = refl }) in
+        w .is
+
+  pub sampled-value : (i v : ℕ) (s : List ℕ) → need S ≤ length s → i < inputs S
+      → value S (sampled T S i s) v ≡ choose (associated T S i v) (buffer S s v) (value S s v)
+  unfolding sampled
+  sampled-value i v s long l =
+      let y = putInput S i 0 0 0 s in
+      let q = leaves-input T S everything s i 0 0 0 l refl .long in
+      samples-value i v y (omega arith)
+      ∙ (λ t. choose (associated T S i v) (buffer-putInput S s i 0 0 0 v l t) (value-putInput S s i 0 0 0 v l t))
+
+  pub fire-found-leaves : (f : Part → Bool) → f input ≡ true → f count ≡ true → f buffered ≡ true → (q : Sought) (birth t : ℕ) (s : List ℕ) → Leaves T S f s (fireFound T S q birth t s)
+  unfolding fireFound
+  fire-found-leaves f wr ct bf (one o) birth t s = fire-leaves T S k f wr ct bf o birth t s
+  fire-found-leaves f wr ct bf missing birth t s = leaves-all T S f s
