@@ -18,9 +18,9 @@ use Rattle.store.specs.Layout.{need, inputs, variables, associations, associati
 use Rattle.store.specs.Running.{awake}
 use Rattle.store.specs.Word.{putOwner, putRunning, putDue, putInput, value, putValue, buffer}
 use Rattle.store.specs.Laws.{buffer-putInput, value-putInput}
-use Rattle.parts.specs.Part.{Part, block, count, due, input, sampled as «samples-part», buffered, just, also, everything, Leaves, leaves-all, leaves-then}
+use Rattle.parts.specs.Part.{Part, block, count, due, input, sampled as «samples-part», buffered, just, everything, Leaves, SameInput, leaves-all, leaves-then}
 use Rattle.parts.specs.Writer.{leaves-owner, leaves-running, leaves-due, leaves-input, leaves-value}
-use Rattle.parts.specs.Own.{value-put, value-other, buffer-value}
+use Rattle.parts.specs.Own.{Input, input-put, input-other, value-put, value-other, buffer-value}
 use Rattle.owned.specs.Owned.{any, belongs, rank, isNth}
 use Rattle.fire.specs.Partner.{partnerOutput, partnerVariable, variableOwner}
 use Rattle.fire.specs.Carry.{voice, speaks}
@@ -51,12 +51,16 @@ module _ (T : List ℕ) (S : Shape) (k : Lawful T S) where
         by-choose (Leaves T S f s) (speaks T S (voice 0 i) j) (putValue S v (buffer S s v) s) s
         (λ _. leaves-value T S f s v (buffer S s v) (k .is-good .association-variable j l) (λ h. clash (sym h ∙ e))) (λ _. leaves-all T S f s)
 
+    pub samples-leaves : f «samples-part» ≡ true → (i : ℕ) (s : List ℕ) → Leaves T S f s (samples T S i s)
+    samples-leaves e i s =
+        upTo-keeps (Leaves T S f s) (sample T S i) (associations S) s
+        (λ j h x w. leaves-then T S f s x (sample T S i j x) (sample-leaves e i j x h) w) (leaves-all T S f s)
+
     pub sampled-leaves : f «samples-part» ≡ true → f input ≡ true → (i : ℕ) (s : List ℕ) → i < inputs S → Leaves T S f s (sampled T S i s)
     unfolding sampled
     sampled-leaves e wr i s l =
         let y = putInput S i 0 0 0 s in
-        upTo-keeps (Leaves T S f s) (sample T S i) (associations S) y
-        (λ j h x w. leaves-then T S f s x (sample T S i j x) (sample-leaves e i j x h) w) (leaves-input T S f s i 0 0 0 l wr)
+        leaves-then T S f s y (samples T S i y) (samples-leaves e i y) (leaves-input T S f s i 0 0 0 l wr)
 
     -- values that go to partners are no inputs
     pass-to-leaves : (q : Sought) (v : ℕ) (s : List ℕ) → ((u : ℕ) → q ≡ one u → (u < variables S) × (flagAt T (variableFrame S u) ≡ 1)) → Leaves T S f s (passTo S q v s)
@@ -144,6 +148,23 @@ module _ (T : List ℕ) (S : Shape) (k : Lawful T S) where
           (λ j l x m. turn x (anyTo (joins T S i v) j) j l m)
           (record { long = long; buffers = λ u. refl; is = refl }) in
         w .is
+
+  -- it stops waiting, and the other event inputs stay
+  pub sampled-input : (i : ℕ) (s : List ℕ) → need S ≤ length s → i < inputs S → Input S i 0 0 0 (sampled T S i s)
+  unfolding sampled
+  sampled-input i s long l =
+      let y = putInput S i 0 0 0 s in
+      let u = samples-leaves (just «samples-part») refl i y .waits refl i l in
+      let w = input-put S s long i 0 0 0 l in
+      record { waits = u .waits ∙ w .waits; born = u .born ∙ w .born; updated = u .last ∙ w .updated }
+
+  pub sampled-other : (i c : ℕ) (s : List ℕ) → c < inputs S → (c ≡ i → ⊥) → SameInput S s (sampled T S i s) c
+  unfolding sampled
+  sampled-other i c s l n =
+      let y = putInput S i 0 0 0 s in
+      let u = samples-leaves (just «samples-part») refl i y .waits refl c l in
+      let w = input-other S s i c 0 0 0 n in
+      record { waits = u .waits ∙ w .waits; born = u .born ∙ w .born; last = u .last ∙ w .last }
 
   pub sampled-value : (i v : ℕ) (s : List ℕ) → need S ≤ length s → i < inputs S
       → value S (sampled T S i s) v ≡ choose (associated T S i v) (buffer S s v) (value S s v)

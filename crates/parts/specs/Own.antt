@@ -100,6 +100,19 @@ module _ (S : Shape) (s : List ℕ) (long : need S ≤ length s) where
 
 -- ---- the like words of others stay
 module _ (S : Shape) (s : List ℕ) where
+  owner-words : (r : Running) → Outside 3 8 s (putRunning r s)
+  unfolding putRunning
+  owner-words r =
+      let a = set s 3 (r .birth) in
+      let b = set a 4 (r .mode) in
+      let c = set b 5 (r .live) in
+      let d = set c 6 (r .action) in
+      outside-set 3 8 s d 7 (r .step) (omega arith) (omega arith)
+      (outside-set 3 8 s c 6 (r .action) (omega arith) (omega arith)
+      (outside-set 3 8 s b 5 (r .live) (omega arith) (omega arith)
+      (outside-set 3 8 s a 4 (r .mode) (omega arith) (omega arith)
+      (outside-set 3 8 s s 3 (r .birth) (omega arith) (omega arith) (outside-none 3 8 s)))))
+
   pub chart-other : (el k q : ℕ) → (k ≡ el → ⊥) → chartState (putChartState el q s) k ≡ chartState s k
   unfolding chartState putChartState elementAt
   chart-other el k q n = getD-set-other s (elementAt el) (elementAt k) q 0 (λ e. n (omega arith))
@@ -126,6 +139,15 @@ module _ (S : Shape) (s : List ℕ) where
         (outside-set lo hi s x (inputAt S i + 1) birth (omega arith) (omega arith)
         (outside-set lo hi s s (inputAt S i) flag (omega arith) (omega arith) (outside-none lo hi s))) in
       same-input S s (putInput S i flag birth last s) k (λ p a b. o .apart p (λ u v. n (omega arith)))
+
+  -- a running block that is put leaves its element and event
+  pub element-running : (r : Running) → runningElement (putRunning r s) ≡ runningElement s
+  unfolding runningElement
+  element-running r = owner-words r .apart 1 (λ a b. omega arith)
+
+  pub event-running : (r : Running) → currentEvent (putRunning r s) ≡ currentEvent s
+  unfolding currentEvent
+  event-running r = owner-words r .apart 2 (λ a b. omega arith)
 
   pub value-other : (v u x : ℕ) → (u ≡ v → ⊥) → value S (putValue S v x s) u ≡ value S s u
   unfolding value putValue variableAt

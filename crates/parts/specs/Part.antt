@@ -47,6 +47,9 @@ also a f p = either (just a p) (f p)
 abbrev pub everything : Part → Bool
 everything p = true
 
+abbrev pub nothing : Part → Bool
+nothing p = false
+
 -- ---- stores that agree in a part
 pub record SameBlock (s s′ : List ℕ) : Type 0 where
   pub element : runningElement s′ ≡ runningElement s

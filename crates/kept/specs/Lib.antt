@@ -1,0 +1,4 @@
+pub mod Formed
+pub mod Means
+pub mod Keeping
+pub mod Blocks

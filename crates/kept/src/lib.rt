@@ -1,0 +1,1 @@
+// No code: a well-formed store stays well formed.
