@@ -1,0 +1,4 @@
+pub mod History
+pub mod Origin
+pub mod Leastness
+pub mod Holds
