@@ -7,21 +7,20 @@ use native.Mathlib.Omega.{arith}
 use lib.Dec.{eqb}
 use lib.IntN.{pos}
 use Rattle.walk.specs.Choose.{by-choose}
-use Rattle.walk.specs.First.{Sought, one, missing}
 use Rattle.number.specs.Word.{signed, word}
 use Rattle.number.specs.Operation.{operation}
 use Rattle.frames.specs.Kind.{none}
 use Rattle.frames.specs.Frame.{flagAt, fieldAt}
 use Rattle.table.specs.declared.Shape.{Shape}
 use Rattle.store.specs.declared.running.Running.{Running}
-use Rattle.store.specs.Layout.{steps, transitionFrame, actionFrame, stepFrame}
-use Rattle.store.specs.Running.{rest, entered, stepped, charting}
+use Rattle.store.specs.Layout.{steps, transitionFrame, stepFrame}
+use Rattle.store.specs.Running.{rest, entered}
 use Rattle.store.specs.Word.{putOwner, putRunning, putChartState, value, putValue}
 use Rattle.parts.specs.Part.{Part, block, count, chart as «charts», input, buffered, Leaves, leaves-all, leaves-then}
 use Rattle.parts.specs.Writer.{leaves-owner, leaves-running, leaves-chart, leaves-value}
 use Rattle.fire.specs.Fire.{fire}
 use Rattle.chart.specs.Chart.{actionNumber, change, goIdle}
-use Rattle.moves.specs.Act.{oneStep, stepMove, fireAny}
+use Rattle.moves.specs.Act.{oneStep, fireAny}
 use Rattle.effects.specs.Lawful.{Lawful}
 use Rattle.effects.specs.Firing.{fire-leaves}
 
@@ -41,15 +40,12 @@ module _ (T : List ℕ) (S : Shape) (k : Lawful T S) (f : Part → Bool) where
       leaves-then T S f s y (putRunning rest y) (leaves-running T S f y rest b) (leaves-owner T S f s 0 0 b)
 
   -- a step's result is no input
-  pub step-leaves : f block ≡ true → (t : ℕ) (r : Running) (j : ℕ) (s : List ℕ) → fieldAt T (actionFrame S j) 1 + r .step < steps S → Leaves T S f s (stepMove T S t r j s)
-  unfolding stepMove oneStep
-  step-leaves b t r j s l =
-      let i = fieldAt T (actionFrame S j) 1 + r .step in
+  pub one-step-leaves : (i age : ℕ) (s : List ℕ) → i < steps S → Leaves T S f s (oneStep T S (stepFrame S i) age s)
+  unfolding oneStep
+  one-step-leaves i age s l =
       let g = stepFrame S i in
-      let x = word (operation (flagAt T g) (signed (value S s (fieldAt T g 1))) (signed (value S s (fieldAt T g 2))) (pos (t - r .birth))) in
-      let y = putValue S (fieldAt T g 0) x s in
-      leaves-then T S f s y (putRunning (stepped r) y) (leaves-running T S f y (stepped r) b)
-      (leaves-value T S f s (fieldAt T g 0) x (k .is-good .step-result i l) (λ _. k .result-other i l))
+      let x = word (operation (flagAt T g) (signed (value S s (fieldAt T g 1))) (signed (value S s (fieldAt T g 2))) (pos age)) in
+      leaves-value T S f s (fieldAt T g 0) x (k .is-good .step-result i l) (λ _. k .result-other i l)
 
   pub fire-any-leaves : f input ≡ true → f count ≡ true → f buffered ≡ true → (o birth t : ℕ) (s : List ℕ) → Leaves T S f s (fireAny T S o birth t s)
   unfolding fireAny

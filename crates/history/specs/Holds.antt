@@ -57,6 +57,10 @@ pub record Holds (T : List ℕ) (S : Shape) (l : Log) (s : List ℕ) : Type 0 wh
   pub input-law : InputLaw T S l s
   pub buffer-law : BufferLaw T S l s
 
+-- what a quiet change touches: the running block, a chart state, a due time; and values that are no inputs
+abbrev pub quiet : Part → Bool
+quiet = also block (also chart (just due))
+
 -- ---- the birth with which an event is fired
 abbrev pub birthBy : List ℕ → Shape → Log → How → ℕ
 birthBy T S l (begins t) = t
@@ -175,10 +179,7 @@ module _ (T : List ℕ) (S : Shape) (k : Lawful T S) (l : Log) (s : List ℕ) (h
           buffer-law = λ j lj. kept .buffers refl (destination T S j) (k .is-good .link-destination j lj) ∙ h .buffer-law j lj;
         }
 
-  -- ---- a change of the running block, a chart state, a due time or of values that are no inputs
-  abbrev pub quiet : Part → Bool
-  quiet = also block (also chart (just due))
-
+  -- ---- a quiet change
   pub quiet-holds : (s′ : List ℕ) → Leaves T S quiet s s′ → Formed T S s′ → ((runningOf s′ .mode ≡ 0 → ⊥) → runningOf s′ .birth ≡ origin T S l current) → Holds T S l s′
   quiet-holds s′ u g b =
       record {

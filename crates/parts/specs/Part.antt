@@ -121,6 +121,23 @@ module _ (T : List ℕ) (S : Shape) (touched : Part → Bool) where
         buffers = λ h v l. b .buffers h v l ∙ a .buffers h v l;
       }
 
+-- a larger set says less
+pub leaves-less : (T : List ℕ) (S : Shape) (f g : Part → Bool) (s s′ : List ℕ) → ((p : Part) → g p ≡ false → f p ≡ false) → Leaves T S f s s′ → Leaves T S g s s′
+leaves-less T S f g s s′ h w =
+    record {
+      long = w .long;
+      past = w .past;
+      spare = w .spare;
+      now = λ e. w .now (h time e);
+      running = λ e. w .running (h block e);
+      counted = λ e. w .counted (h count e);
+      charts = λ e. w .charts (h chart e);
+      dues = λ e. w .dues (h due e);
+      waits = λ e. w .waits (h input e);
+      values = λ e. w .values (h sampled e);
+      buffers = λ e. w .buffers (h buffered e);
+    }
+
 -- ---- a stretch of places: s′ is s but for the words from lo up to hi
 pub record Outside (lo hi : ℕ) (s s′ : List ℕ) : Type 0 where
   pub long : length s′ ≡ length s
