@@ -6,3 +6,4 @@ pub mod Goes
 pub mod Taken
 pub mod Blocks
 pub mod Moves
+pub mod Calls
