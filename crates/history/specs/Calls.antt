@@ -27,10 +27,11 @@ use Rattle.effects.specs.Calling.{gives-leaves}
 use Rattle.kept.specs.Formed.{Formed}
 use Rattle.kept.specs.Blocks.{due-cleared, now-formed}
 use Rattle.history.specs.History.{begins, Log, fireLog, expireLog, advanceLog, arrivalLog}
+use Rattle.history.specs.Origin.{Begun}
 use Rattle.history.specs.Holds.{Holds, quiet, now-holds}
 use Rattle.history.specs.Goes.{Goes, goes-start, goes-now, fire-goes, fire-found-goes, quiet-goes, calm-goes}
 
-module _ (T : List ℕ) (S : Shape) (k : Lawful T S) where
+module _ (T : List ℕ) (S : Shape) (B : Begun) (k : Lawful T S) where
   -- ---- advance
   -- a time that is not refused is no earlier than now, within the times, and no delay is due before it
   time-later : (s : List ℕ) (t : ℕ) → wrongTime s t ≡ false → (nowOf s ≤ t) × (t ≤ «largest»)
@@ -50,48 +51,48 @@ module _ (T : List ℕ) (S : Shape) (k : Lawful T S) where
       ltb-false (dueTime s el) t h′
 
   module _ (s₀ : List ℕ) (t : ℕ) (n₀ : nowOf s₀ ≡ t) where
-    expired-goes : (l : Log) (s : List ℕ) (el : ℕ) → el < S .elements → Goes T S s₀ l s → Goes T S s₀ (fireLog (nth T (S .inputs) (outputs S) any el 0) (begins t) s l) (expired T S t el s)
+    expired-goes : (l : Log) (s : List ℕ) (el : ℕ) → el < S .elements → Goes T S B s₀ l s → Goes T S B s₀ (fireLog (nth T (S .inputs) (outputs S) any el 0) (begins t) s l) (expired T S t el s)
     unfolding expired
     expired-goes l s el le g =
         let q = nth T (S .inputs) (outputs S) any el 0 in
         let l′ = fireLog q (begins t) s l in
         let x = fireFound T S q t t s in
-        let h = fire-found-goes T S k s₀ l s g q (begins t) t t (goes-now T S k s₀ l s g ∙ n₀) (omega arith) refl in
+        let h = fire-found-goes T S B k s₀ l s g q (begins t) t t (goes-now T S B k s₀ l s g ∙ n₀) (omega arith) refl in
         let r = leaves-due T S (just due) x el 0 0 le refl .running refl .running in
-        quiet-goes T S k s₀ l′ x h (putDue el 0 0 x) (leaves-due T S quiet x el 0 0 le refl) (due-cleared T S el x le (h .holds .formed))
+        quiet-goes T S B k s₀ l′ x h (putDue el 0 0 x) (leaves-due T S quiet x el 0 0 le refl) (due-cleared T S el x le (h .holds .formed))
         (λ m. ap (λ (y : Running). y .birth) r ∙ h .holds .births .running-born (λ z. m (ap (λ (y : Running). y .mode) r ∙ z)))
 
-    expire-goes : (l : Log) (s : List ℕ) (el : ℕ) → el < S .elements → Goes T S s₀ l s → Goes T S s₀ (expireLog T S t el s l) (expire T S t el s)
+    expire-goes : (l : Log) (s : List ℕ) (el : ℕ) → el < S .elements → Goes T S B s₀ l s → Goes T S B s₀ (expireLog T S t el s l) (expire T S t el s)
     unfolding expireLog expire choose
     expire-goes l s el le g = by (dueAt s t el)
       where
-        by : (c : Bool) → Goes T S s₀ (choose c (fireLog (nth T (S .inputs) (outputs S) any el 0) (begins t) s l) l) (choose c (expired T S t el s) s)
+        by : (c : Bool) → Goes T S B s₀ (choose c (fireLog (nth T (S .inputs) (outputs S) any el 0) (begins t) s l) l) (choose c (expired T S t el s) s)
         by true = expired-goes l s el le g
         by false = g
 
-    walk-goes : (l : Log) (n : ℕ) → n ≤ S .elements → Holds T S l s₀
-        → Goes T S s₀ (upTo (λ (el : ℕ). expireLog T S t el (upTo (expire T S t) el s₀)) n l) (upTo (expire T S t) n s₀)
+    walk-goes : (l : Log) (n : ℕ) → n ≤ S .elements → Holds T S B l s₀
+        → Goes T S B s₀ (upTo (λ (el : ℕ). expireLog T S t el (upTo (expire T S t) el s₀)) n l) (upTo (expire T S t) n s₀)
     unfolding upTo
-    walk-goes l zero b h = goes-start T S k s₀ l h
+    walk-goes l zero b h = goes-start T S B k s₀ l h
     walk-goes l (suc n) b h =
         expire-goes (upTo (λ (el : ℕ). expireLog T S t el (upTo (expire T S t) el s₀)) n l) (upTo (expire T S t) n s₀) n (omega arith) (walk-goes l n (omega arith) h)
 
-  module _ (l : Log) (s : List ℕ) (h : Holds T S l s) where
+  module _ (l : Log) (s : List ℕ) (h : Holds T S B l s) where
     -- from the store with its new now on
-    pub advance-goes : (t : ℕ) → wrongTime s t ≡ false → beyondDue S s t ≡ false → Goes T S (putNow t s) (advanceLog T S t s l) (advanced T S t s)
+    pub advance-goes : (t : ℕ) → wrongTime s t ≡ false → beyondDue S s t ≡ false → Goes T S B (putNow t s) (advanceLog T S t s l) (advanced T S t s)
     unfolding advanceLog advanced
     advance-goes t a b =
         let w = time-later s t a in
         let f = now-formed T S t s (w .0) (w .1) (none-before s t b) (h .formed) in
-        walk-goes (putNow t s) t (now-put S s (h .formed .parts .long) t) l (S .elements) (omega arith) (now-holds T S k l s h t (w .0) f)
+        walk-goes (putNow t s) t (now-put S s (h .formed .parts .long) t) l (S .elements) (omega arith) (now-holds T S B k l s h t (w .0) f)
 
     -- ---- arrival
-    pub arrival-goes : (o birth : ℕ) (values : List ℕ) → birth ≤ nowOf s → Goes T S s (arrivalLog T S o birth values s l) (arrived T S o birth values s)
+    pub arrival-goes : (o birth : ℕ) (values : List ℕ) → birth ≤ nowOf s → Goes T S B s (arrivalLog T S o birth values s l) (arrived T S o birth values s)
     unfolding arrivalLog arrived
     arrival-goes o birth values b =
         let x = upTo (give T S o values) (associations S) s in
-        let g = calm-goes T S k s l s (goes-start T S k s l h) x (λ f. gives-leaves T S k f o values s) in
-        fire-goes T S k s l x g o (begins birth) birth (nowOf s) (goes-now T S k s l x g) b refl
+        let g = calm-goes T S B k s l s (goes-start T S B k s l h) x (λ f. gives-leaves T S k f o values s) in
+        fire-goes T S B k s l x g o (begins birth) birth (nowOf s) (goes-now T S B k s l x g) b refl
 
     pub advance-later : (t : ℕ) → wrongTime s t ≡ false → nowOf s ≤ t
     advance-later t a = time-later s t a .0

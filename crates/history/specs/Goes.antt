@@ -19,7 +19,7 @@ use Rattle.effects.specs.Taking.{sampled-leaves}
 use Rattle.kept.specs.Formed.{Formed}
 use Rattle.kept.specs.Blocks.{calm-formed}
 use Rattle.history.specs.History.{How, begins, goesOn, takes, fires, Log, more, fireLog}
-use Rattle.history.specs.Origin.{current, origin}
+use Rattle.history.specs.Origin.{Begun, current, origin}
 use Rattle.history.specs.Holds.{Holds, birthBy, quiet, fire-holds, take-holds, quiet-holds}
 
 -- every part but now
@@ -48,8 +48,8 @@ pub record Onward (T : List ℕ) (S : Shape) (s₀ s : List ℕ) : Type 0 where
   pub leaves : Leaves T S still s₀ s
   pub grows : overwritten s₀ ≤ overwritten s
 
-pub record Goes (T : List ℕ) (S : Shape) (s₀ : List ℕ) (l : Log) (s : List ℕ) : Type 0 where
-  pub holds : Holds T S l s
+pub record Goes (T : List ℕ) (S : Shape) (B : Begun) (s₀ : List ℕ) (l : Log) (s : List ℕ) : Type 0 where
+  pub holds : Holds T S B l s
   pub onward : Onward T S s₀ s
 
 -- a quiet change, and one that changes no part at all, touch neither now nor the count
@@ -73,8 +73,8 @@ still-less input e = clash (sym e)
 still-less «samples-part» e = clash (sym e)
 still-less buffered e = clash (sym e)
 
-module _ (T : List ℕ) (S : Shape) (k : Lawful T S) (s₀ : List ℕ) where
-  pub goes-start : (l : Log) → Holds T S l s₀ → Goes T S s₀ l s₀
+module _ (T : List ℕ) (S : Shape) (B : Begun) (k : Lawful T S) (s₀ : List ℕ) where
+  pub goes-start : (l : Log) → Holds T S B l s₀ → Goes T S B s₀ l s₀
   goes-start l h = record { holds = h; onward = record { leaves = leaves-all T S still s₀; grows = omega arith } }
 
   onward-uncounted : (s s′ : List ℕ) → Leaves T S uncounted s s′ → Onward T S s₀ s → Onward T S s₀ s′
@@ -84,12 +84,12 @@ module _ (T : List ℕ) (S : Shape) (k : Lawful T S) (s₀ : List ℕ) where
         grows = let q = w .counted refl in let a = g .grows in omega arith;
       }
 
-  module _ (l : Log) (s : List ℕ) (g : Goes T S s₀ l s) where
-    pub fire-goes : (o : ℕ) (how : How) (birth t : ℕ) → nowOf s ≡ t → birth ≤ t → birth ≡ birthBy T S l how → Goes T S s₀ (more l (fires o how s)) (fire T S o birth t s)
+  module _ (l : Log) (s : List ℕ) (g : Goes T S B s₀ l s) where
+    pub fire-goes : (o : ℕ) (how : How) (birth t : ℕ) → nowOf s ≡ t → birth ≤ t → birth ≡ birthBy T S B l how → Goes T S B s₀ (more l (fires o how s)) (fire T S o birth t s)
     fire-goes o how birth t n b e =
         let h = g .holds in
         record {
-          holds = fire-holds T S k l s h o how birth t n b e;
+          holds = fire-holds T S B k l s h o how birth t n b e;
           onward =
               record {
                 leaves = leaves-then T S still s₀ s (fire T S o birth t s) (fire-leaves T S k still refl refl refl o birth t s) (g .onward .leaves);
@@ -97,29 +97,29 @@ module _ (T : List ℕ) (S : Shape) (k : Lawful T S) (s₀ : List ℕ) where
               };
         }
 
-    pub fire-found-goes : (q : Sought) (how : How) (birth t : ℕ) → nowOf s ≡ t → birth ≤ t → birth ≡ birthBy T S l how → Goes T S s₀ (fireLog q how s l) (fireFound T S q birth t s)
+    pub fire-found-goes : (q : Sought) (how : How) (birth t : ℕ) → nowOf s ≡ t → birth ≤ t → birth ≡ birthBy T S B l how → Goes T S B s₀ (fireLog q how s l) (fireFound T S q birth t s)
     unfolding fireLog fireFound
     fire-found-goes (one o) how birth t n b e = fire-goes o how birth t n b e
     fire-found-goes missing how birth t n b e = g
 
     pub take-goes : (i : ℕ) → i < inputs S → waiting S s i ≡ 1 → runningOf s .mode ≡ 0 → ((c : ℕ) → c < inputs S → waiting S s c ≡ 1 → lastUpdate S s i ≤ lastUpdate S s c)
-        → Goes T S s₀ (more l (takes i s)) (sampled T S i s)
+        → Goes T S B s₀ (more l (takes i s)) (sampled T S i s)
     take-goes i li w idle first =
         record {
-          holds = take-holds T S k l s (g .holds) i li w idle first;
+          holds = take-holds T S B k l s (g .holds) i li w idle first;
           onward = onward-uncounted s (sampled T S i s) (sampled-leaves T S k uncounted refl refl i s li) (g .onward);
         }
 
-    pub quiet-goes : (s′ : List ℕ) → Leaves T S quiet s s′ → Formed T S s′ → ((runningOf s′ .mode ≡ 0 → ⊥) → runningOf s′ .birth ≡ origin T S l current)
-        → Goes T S s₀ l s′
+    pub quiet-goes : (s′ : List ℕ) → Leaves T S quiet s s′ → Formed T S s′ → ((runningOf s′ .mode ≡ 0 → ⊥) → runningOf s′ .birth ≡ origin T S B l current)
+        → Goes T S B s₀ l s′
     quiet-goes s′ w f b =
         record {
-          holds = quiet-holds T S k l s (g .holds) s′ w f b;
+          holds = quiet-holds T S B k l s (g .holds) s′ w f b;
           onward = onward-uncounted s s′ (leaves-less T S quiet uncounted s s′ quiet-less w) (g .onward);
         }
 
     -- values that are no inputs
-    pub calm-goes : (s′ : List ℕ) → ((f : Part → Bool) → Leaves T S f s s′) → Goes T S s₀ l s′
+    pub calm-goes : (s′ : List ℕ) → ((f : Part → Bool) → Leaves T S f s s′) → Goes T S B s₀ l s′
     calm-goes s′ w =
         let r = w nothing .running refl .running in
         quiet-goes s′ (w quiet) (calm-formed T S s s′ (w nothing) (g .holds .formed))

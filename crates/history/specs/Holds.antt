@@ -28,61 +28,73 @@ use Rattle.effects.specs.Taking.{sampled-leaves, sampled-input, sampled-other, 
 use Rattle.kept.specs.Formed.{Formed}
 use Rattle.kept.specs.Keeping.{fire-formed, sampled-formed}
 use Rattle.history.specs.History.{How, begins, goesOn, Happening, takes, fires, Log, empty, more}
-use Rattle.history.specs.Origin.{latest, Ordered, Event, waits, current, origin, lastSampled, lastCopied}
+use Rattle.history.specs.Origin.{Begun, asFound, latest, Ordered, Event, waits, current, origin, lastSampled, lastCopied}
 
 -- ---- the laws
 -- events were taken in order, and no event that waits is earlier than they
-pub record OrderLaw (S : Shape) (l : Log) (s : List ℕ) : Type 0 where
-  pub ordered : Ordered S l
-  pub late : latest S l ≤ nowOf s
-  pub later : (i : ℕ) → i < inputs S → waiting S s i ≡ 1 → latest S l ≤ lastUpdate S s i
+pub record OrderLaw (S : Shape) (B : Begun) (l : Log) (s : List ℕ) : Type 0 where
+  pub ordered : Ordered S B l
+  pub late : latest S B l ≤ nowOf s
+  pub later : (i : ℕ) → i < inputs S → waiting S s i ≡ 1 → latest S B l ≤ lastUpdate S s i
 
 -- an event that waits, and the event being run, bear the birth of their chain
-pub record BirthLaw (T : List ℕ) (S : Shape) (l : Log) (s : List ℕ) : Type 0 where
-  pub waiting-born : (i : ℕ) → i < inputs S → waiting S s i ≡ 1 → birthOf S s i ≡ origin T S l (waits i)
-  pub running-born : (runningOf s .mode ≡ 0 → ⊥) → runningOf s .birth ≡ origin T S l current
+pub record BirthLaw (T : List ℕ) (S : Shape) (B : Begun) (l : Log) (s : List ℕ) : Type 0 where
+  pub waiting-born : (i : ℕ) → i < inputs S → waiting S s i ≡ 1 → birthOf S s i ≡ origin T S B l (waits i)
+  pub running-born : (runningOf s .mode ≡ 0 → ⊥) → runningOf s .birth ≡ origin T S B l current
 
 -- an input holds what its buffer held when an event associated with it was last taken
-abbrev pub InputLaw : List ℕ → Shape → Log → List ℕ → Type 0
-InputLaw T S l s = (v : ℕ) → v < variables S → flagAt T (variableFrame S v) ≡ 0 → value S s v ≡ lastSampled T S l v
+abbrev pub InputLaw : List ℕ → Shape → Begun → Log → List ℕ → Type 0
+InputLaw T S B l s = (v : ℕ) → v < variables S → flagAt T (variableFrame S v) ≡ 0 → value S s v ≡ lastSampled T S B l v
 
 -- a connected buffer holds what its source held when an event carrying it was last fired
-abbrev pub BufferLaw : List ℕ → Shape → Log → List ℕ → Type 0
-BufferLaw T S l s = (j : ℕ) → j < links S → buffer S s (destination T S j) ≡ lastCopied T S l (source T S j) (destination T S j)
+abbrev pub BufferLaw : List ℕ → Shape → Begun → Log → List ℕ → Type 0
+BufferLaw T S B l s = (j : ℕ) → j < links S → buffer S s (destination T S j) ≡ lastCopied T S B l (source T S j) (destination T S j)
 
-pub record Holds (T : List ℕ) (S : Shape) (l : Log) (s : List ℕ) : Type 0 where
+pub record Holds (T : List ℕ) (S : Shape) (B : Begun) (l : Log) (s : List ℕ) : Type 0 where
   pub formed : Formed T S s
-  pub order : OrderLaw S l s
-  pub births : BirthLaw T S l s
-  pub input-law : InputLaw T S l s
-  pub buffer-law : BufferLaw T S l s
+  pub order : OrderLaw S B l s
+  pub births : BirthLaw T S B l s
+  pub input-law : InputLaw T S B l s
+  pub buffer-law : BufferLaw T S B l s
 
 -- what a quiet change touches: the running block, a chart state, a due time; and values that are no inputs
 abbrev pub quiet : Part → Bool
 quiet = also block (also chart (just due))
 
 -- ---- the birth with which an event is fired
-abbrev pub birthBy : List ℕ → Shape → Log → How → ℕ
-birthBy T S l (begins t) = t
-birthBy T S l goesOn = origin T S l current
+abbrev pub birthBy : List ℕ → Shape → Begun → Log → How → ℕ
+birthBy T S B l (begins t) = t
+birthBy T S B l goesOn = origin T S B l current
 
-origin-fires : (T : List ℕ) (S : Shape) (l : Log) (o : ℕ) (how : How) (s : List ℕ) (c : ℕ)
-    → origin T S (more l (fires o how s)) (waits c) ≡ choose (connected T S o c) (birthBy T S l how) (origin T S l (waits c))
+origin-fires : (T : List ℕ) (S : Shape) (B : Begun) (l : Log) (o : ℕ) (how : How) (s : List ℕ) (c : ℕ)
+    → origin T S B (more l (fires o how s)) (waits c) ≡ choose (connected T S o c) (birthBy T S B l how) (origin T S B l (waits c))
 unfolding origin
-origin-fires T S l o (begins t) s c = refl
-origin-fires T S l o goesOn s c = refl
+origin-fires T S B l o (begins t) s c = refl
+origin-fires T S B l o goesOn s c = refl
 
-origin-stays : (T : List ℕ) (S : Shape) (l : Log) (o : ℕ) (how : How) (s : List ℕ) → origin T S (more l (fires o how s)) current ≡ origin T S l current
+origin-stays : (T : List ℕ) (S : Shape) (B : Begun) (l : Log) (o : ℕ) (how : How) (s : List ℕ) → origin T S B (more l (fires o how s)) current ≡ origin T S B l current
 unfolding origin
-origin-stays T S l o (begins t) s = refl
-origin-stays T S l o goesOn s = refl
+origin-stays T S B l o (begins t) s = refl
+origin-stays T S B l o goesOn s = refl
 
-module _ (T : List ℕ) (S : Shape) (k : Lawful T S) (l : Log) (s : List ℕ) (h : Holds T S l s) where
+-- ---- in a well-formed store, whatever happened before
+pub found-holds : (T : List ℕ) (S : Shape) (s : List ℕ) → Formed T S s → Holds T S (asFound S s) empty s
+unfolding origin lastSampled lastCopied
+found-holds T S s f =
+    record {
+      formed = f;
+      order = record { ordered = tt; late = omega arith; later = λ i l w. omega arith };
+      births = record { waiting-born = λ i l w. refl; running-born = λ n. refl };
+      input-law = λ v l e. refl;
+      buffer-law = λ j l. refl;
+    }
+
+module _ (T : List ℕ) (S : Shape) (B : Begun) (k : Lawful T S) (l : Log) (s : List ℕ) (h : Holds T S B l s) where
   long : need S ≤ length s
   long = h .formed .parts .long
 
   -- ---- an event output is fired
-  module _ (o : ℕ) (how : How) (birth t : ℕ) (now-is : nowOf s ≡ t) (b : birth ≤ t) (e : birth ≡ birthBy T S l how) where
+  module _ (o : ℕ) (how : How) (birth t : ℕ) (now-is : nowOf s ≡ t) (b : birth ≤ t) (e : birth ≡ birthBy T S B l how) where
     firing : Part → Bool
     firing = also input (also count (just buffered))
 
@@ -93,7 +105,7 @@ module _ (T : List ℕ) (S : Shape) (k : Lawful T S) (l : Log) (s : List ℕ) (h
     marked : (i : ℕ) → i < inputs S → Marked T S k o birth t i s (connected T S o i) (fire T S o birth t s)
     marked i li = fire-marked T S k o birth t i s long li
 
-    fire-order : OrderLaw S (more l (fires o how s)) (fire T S o birth t s)
+    fire-order : OrderLaw S B (more l (fires o how s)) (fire T S o birth t s)
     unfolding firing
     fire-order =
         record {
@@ -105,7 +117,7 @@ module _ (T : List ℕ) (S : Shape) (k : Lawful T S) (l : Log) (s : List ℕ) (h
               (λ c. let u = marked i li .miss c in rw (u .last) (h .order .later i li (sym (u .waits) ∙ w))) (test-cases (connected T S o i));
         }
 
-    fire-births : BirthLaw T S (more l (fires o how s)) (fire T S o birth t s)
+    fire-births : BirthLaw T S B (more l (fires o how s)) (fire T S o birth t s)
     unfolding firing
     fire-births =
         record {
@@ -114,18 +126,18 @@ module _ (T : List ℕ) (S : Shape) (k : Lawful T S) (l : Log) (s : List ℕ) (h
               ⊎-elim
               (λ c.
               let u = marked i li .hit c in
-              u .born ∙ e ∙ sym (origin-fires T S l o how s i ∙ choose-true (connected T S o i) (birthBy T S l how) (origin T S l (waits i)) c))
+              u .born ∙ e ∙ sym (origin-fires T S B l o how s i ∙ choose-true (connected T S o i) (birthBy T S B l how) (origin T S B l (waits i)) c))
               (λ c.
               let u = marked i li .miss c in
               u .born ∙ h .births .waiting-born i li (sym (u .waits) ∙ w)
-              ∙ sym (origin-fires T S l o how s i ∙ choose-false (connected T S o i) (birthBy T S l how) (origin T S l (waits i)) c)) (test-cases (connected T S o i));
+              ∙ sym (origin-fires T S B l o how s i ∙ choose-false (connected T S o i) (birthBy T S B l how) (origin T S B l (waits i)) c)) (test-cases (connected T S o i));
           running-born =
               λ n.
               let u = left .running refl .running in
-              ap (λ (x : Running). x .birth) u ∙ h .births .running-born (λ z. n (ap (λ (x : Running). x .mode) u ∙ z)) ∙ sym (origin-stays T S l o how s);
+              ap (λ (x : Running). x .birth) u ∙ h .births .running-born (λ z. n (ap (λ (x : Running). x .mode) u ∙ z)) ∙ sym (origin-stays T S B l o how s);
         }
 
-    pub fire-holds : Holds T S (more l (fires o how s)) (fire T S o birth t s)
+    pub fire-holds : Holds T S B (more l (fires o how s)) (fire T S o birth t s)
     unfolding firing lastSampled lastCopied
     fire-holds =
         record {
@@ -154,7 +166,7 @@ module _ (T : List ℕ) (S : Shape) (k : Lawful T S) (l : Log) (s : List ℕ) (h
         ⊎-elim (λ e. absurd (let u = sampled-input T S k i s long li in let z = sym (u .waits) ∙ ap (waiting S (sampled T S i s)) (sym (eqb-true c i e)) ∙ x in omega arith))
         (λ e. sampled-other T S k i c s lc (eqb-false c i e)) (test-cases (eqb c i))
 
-    take-order : OrderLaw S (more l (takes i s)) (sampled T S i s)
+    take-order : OrderLaw S B (more l (takes i s)) (sampled T S i s)
     unfolding taking
     take-order =
         record {
@@ -163,7 +175,7 @@ module _ (T : List ℕ) (S : Shape) (k : Lawful T S) (l : Log) (s : List ℕ) (h
           later = λ c lc x. let u = others c lc x in rw (u .last) (first c lc (sym (u .waits) ∙ x));
         }
 
-    pub take-holds : Holds T S (more l (takes i s)) (sampled T S i s)
+    pub take-holds : Holds T S B (more l (takes i s)) (sampled T S i s)
     unfolding taking origin lastSampled lastCopied
     take-holds =
         record {
@@ -180,7 +192,7 @@ module _ (T : List ℕ) (S : Shape) (k : Lawful T S) (l : Log) (s : List ℕ) (h
         }
 
   -- ---- a quiet change
-  pub quiet-holds : (s′ : List ℕ) → Leaves T S quiet s s′ → Formed T S s′ → ((runningOf s′ .mode ≡ 0 → ⊥) → runningOf s′ .birth ≡ origin T S l current) → Holds T S l s′
+  pub quiet-holds : (s′ : List ℕ) → Leaves T S quiet s s′ → Formed T S s′ → ((runningOf s′ .mode ≡ 0 → ⊥) → runningOf s′ .birth ≡ origin T S B l current) → Holds T S B l s′
   quiet-holds s′ u g b =
       record {
         formed = g;
@@ -200,7 +212,7 @@ module _ (T : List ℕ) (S : Shape) (k : Lawful T S) (l : Log) (s : List ℕ) (h
       }
 
   -- ---- a new time
-  pub now-holds : (t : ℕ) → nowOf s ≤ t → Formed T S (putNow t s) → Holds T S l (putNow t s)
+  pub now-holds : (t : ℕ) → nowOf s ≤ t → Formed T S (putNow t s) → Holds T S B l (putNow t s)
   now-holds t b g =
       let u = leaves-now T S (just time) s t refl in
       let n = now-put S s long t in

@@ -7,3 +7,5 @@ pub mod Taken
 pub mod Blocks
 pub mod Moves
 pub mod Calls
+pub mod Loaded
+pub mod Records

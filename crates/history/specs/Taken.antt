@@ -30,7 +30,7 @@ use Rattle.effects.specs.Taking.{passes-leaves, delay-leaves, wake-leaves, samp
 use Rattle.kept.specs.Formed.{Formed}
 use Rattle.kept.specs.Blocks.{wake-formed, due-set, due-cleared}
 use Rattle.history.specs.History.{goesOn, takes, Log, more, fireLog, takeLog}
-use Rattle.history.specs.Origin.{waits, current, origin}
+use Rattle.history.specs.Origin.{Begun, waits, current, origin}
 use Rattle.history.specs.Leastness.{Least}
 use Rattle.history.specs.Holds.{Holds, quiet}
 use Rattle.history.specs.Goes.{Goes, take-goes, quiet-goes, calm-goes, fire-found-goes}
@@ -49,7 +49,7 @@ dt-small T S el s = by (nth T (S .outputs) (variables S) any el 0)
     by (one v) = ticks-small (value S s v)
     by missing = omega arith
 
-module _ (T : List ℕ) (S : Shape) (k : Lawful T S) (s₀ : List ℕ) (l : Log) (s : List ℕ) (g : Goes T S s₀ l s) (t : ℕ) (n : nowOf s ≡ t)
+module _ (T : List ℕ) (S : Shape) (B : Begun) (k : Lawful T S) (s₀ : List ℕ) (l : Log) (s : List ℕ) (g : Goes T S B s₀ l s) (t : ℕ) (n : nowOf s ≡ t)
     (idle : runningOf s .mode ≡ 0) (i : ℕ) (w : Least T S s (inputs S) i) where
   abbrev el : ℕ
   el = inputOwner T S i
@@ -67,7 +67,7 @@ module _ (T : List ℕ) (S : Shape) (k : Lawful T S) (s₀ : List ℕ) (l : Log)
   f = g .holds .formed
 
   -- it waits, born not after now
-  flag : waiting S s i ≡ 1
+  pub flag : waiting S s i ≡ 1
   flag = one-of (waiting S s i) (f .parts .events i (w .inside) .flagged) (w .waits)
     where
       one-of : (x : ℕ) → x ≤ 1 → (x ≡ 0 → ⊥) → x ≡ 1
@@ -79,8 +79,8 @@ module _ (T : List ℕ) (S : Shape) (k : Lawful T S) (s₀ : List ℕ) (l : Log)
   within : el < S .elements
   within = k .is-good .input-element i (w .inside)
 
-  go : Goes T S s₀ l′ y
-  go = take-goes T S k s₀ l s g i (w .inside) flag idle (λ c lc x. w .before c lc (λ z. let q = sym z ∙ x in omega arith))
+  go : Goes T S B s₀ l′ y
+  go = take-goes T S B k s₀ l s g i (w .inside) flag idle (λ c lc x. w .before c lc (λ z. let q = sym z ∙ x in omega arith))
 
   left : Leaves T S (also «samples-part» (just input)) s y
   left = sampled-leaves T S k (also «samples-part» (just input)) refl refl i s (w .inside)
@@ -93,35 +93,35 @@ module _ (T : List ℕ) (S : Shape) (k : Lawful T S) (s₀ : List ℕ) (l : Log)
   idle-y = ap (λ (x : Running). x .mode) (left .running refl .running) ∙ idle
 
   -- the chain of the event is that of the event taken last
-  chain : birth ≡ origin T S l′ current
+  chain : birth ≡ origin T S B l′ current
   unfolding origin
   chain = g .holds .births .waiting-born i (w .inside) flag
 
   -- ---- basic
-  wakes : flagAt T el ≡ 0 → Goes T S s₀ l′ (wake el i birth y)
+  wakes : flagAt T el ≡ 0 → Goes T S B s₀ l′ (wake el i birth y)
   unfolding wake
   wakes e =
       let z = putOwner (el + 1) (i + 1) y in
       let u = leaves-owner T S everything y (el + 1) (i + 1) refl .long in
       let long = go .holds .formed .parts .long in
       let r = running-put S z (omega arith) (awake birth) in
-      quiet-goes T S k s₀ l′ y go (wake el i birth y) (wake-leaves T S k quiet refl el i birth y)
+      quiet-goes T S B k s₀ l′ y go (wake el i birth y) (wake-leaves T S k quiet refl el i birth y)
       (wake-formed T S el i birth y within e (w .inside) refl (rw now-y born) (go .holds .formed))
       (λ _. ap (λ (x : Running). x .birth) r ∙ chain)
 
   -- ---- interface
-  relays : Goes T S s₀ (fireLog (partnerOutput T S i) goesOn (passes T S i y) l′) (relay T S i birth t y)
+  relays : Goes T S B s₀ (fireLog (partnerOutput T S i) goesOn (passes T S i y) l′) (relay T S i birth t y)
   unfolding relay
   relays =
-      let z = calm-goes T S k s₀ l′ y go (passes T S i y) (λ p. passes-leaves T S k p i y) in
-      fire-found-goes T S k s₀ l′ (passes T S i y) z (partnerOutput T S i) goesOn birth t (passes-leaves T S k nothing i y .now refl ∙ now-y) born chain
+      let z = calm-goes T S B k s₀ l′ y go (passes T S i y) (λ p. passes-leaves T S k p i y) in
+      fire-found-goes T S B k s₀ l′ (passes T S i y) z (partnerOutput T S i) goesOn birth t (passes-leaves T S k nothing i y .now refl ∙ now-y) born chain
 
   -- ---- delay
-  delays : flagAt T el ≡ 2 → Goes T S s₀ l′ (delay T S el i t y)
+  delays : flagAt T el ≡ 2 → Goes T S B s₀ l′ (delay T S el i t y)
   unfolding delay
   delays e =
       let d = delay-leaves T S k (just due) refl el i t y within in
-      quiet-goes T S k s₀ l′ y go (delay T S el i t y) (delay-leaves T S k quiet refl el i t y within) formed
+      quiet-goes T S B k s₀ l′ y go (delay T S el i t y) (delay-leaves T S k quiet refl el i t y within) formed
       (λ m. absurd (m (ap (λ (x : Running). x .mode) (d .running refl .running) ∙ idle-y)))
     where
       formed : Formed T S (delay T S el i t y)
@@ -134,12 +134,12 @@ module _ (T : List ℕ) (S : Shape) (k : Lawful T S) (s₀ : List ℕ) (l : Log)
           (λ _. due-cleared T S el y within g′)
 
   -- ---- by the element's sort
-  pub taken-goes : Goes T S s₀ (takeLog T S i s l) (taken T S i t s)
+  pub taken-goes : Goes T S B s₀ (takeLog T S i s l) (taken T S i t s)
   unfolding takeLog taken receive choose
   taken-goes = by (eqb (flagAt T el) 0) (eqb (flagAt T el) 1) (eqb (flagAt T el) 2) refl refl refl
     where
       by : (a b c : Bool) → eqb (flagAt T el) 0 ≡ a → eqb (flagAt T el) 1 ≡ b → eqb (flagAt T el) 2 ≡ c
-          → Goes T S s₀ (choose b (fireLog (partnerOutput T S i) goesOn (passes T S i y) l′) l′) (choose a (wake el i birth y) (choose b (relay T S i birth t y) (choose c (delay T S el i t y) y)))
+          → Goes T S B s₀ (choose b (fireLog (partnerOutput T S i) goesOn (passes T S i y) l′) l′) (choose a (wake el i birth y) (choose b (relay T S i birth t y) (choose c (delay T S el i t y) y)))
       by true true c p q r = absurd (let z = eqb-true (flagAt T el) 0 p in let x = eqb-true (flagAt T el) 1 q in omega arith)
       by true false c p q r = wakes (eqb-true (flagAt T el) 0 p)
       by false true c p q r = relays
