@@ -1,0 +1,6 @@
+pub mod Sequence
+pub mod Refusals
+pub mod Steps
+pub mod Demand3
+pub mod Kept
+pub mod Agreement
