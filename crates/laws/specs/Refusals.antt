@@ -8,7 +8,6 @@ use lib.Dec.{eqb, ltb}
 use lib.ListN.{length}
 use borrow.Author.Tests.{eqb-true, eqb-false, ltb-false}
 use Rattle.walk.specs.Pick.{pick}
-use Rattle.walk.specs.Choose.{choose}
 use Rattle.table.specs.declared.Shape.{Shape}
 use Rattle.table.specs.Judge.{Verdict, accepted, refused}
 use Rattle.store.specs.Layout.{need}
@@ -17,7 +16,7 @@ use Rattle.load.specs.WellFormed.{wellFormed}
 use Rattle.run.specs.Calls.{wrongTime, beyondDue, ofSource, associated}
 use Rattle.xaluudhiga.specs.declared.calls.Answer.{Answer}
 use Rattle.xaluudhiga.specs.declared.calls.Answer.the-variants.{Refused, Done, Ran}
-use Rattle.xaluudhiga.specs.Calls.{numberOf, answerBy, keptBy, loadRefusal, storeRefusal, orElse, timeRefusal, advanceRefusal, eventRefusal, arrivalRefusal}
+use Rattle.xaluudhiga.specs.Calls.{answerBy, loadRefusal, storeRefusal, orElse, timeRefusal, eventRefusal}
 use Rattle.kept.specs.Formed.{Formed}
 use Rattle.kept.specs.Means.{formed-means}
 
@@ -33,6 +32,20 @@ done-means accepted q e = by (eqb q 0) refl e
     by true z d = record { table = refl; call = eqb-true q 0 z }
     by false z d = absurd (let y : _≡_ {A = ℕ} 0 1 = cc in omega arith)
 done-means (refused p f) q e = absurd (let y : _≡_ {A = ℕ} 0 1 = cc in omega arith)
+
+-- ---- so was a run that tells its moves; d is what it would tell
+pub record Running (v : Verdict) (q : ℕ) (r d : Answer) : Type 0 where
+  pub table : v ≡ accepted
+  pub call : q ≡ 0
+  pub is : r ≡ d
+
+pub ran-means : (v : Verdict) (q m b n : ℕ) (d : Answer) → Ran m b n ≡ answerBy v q d → Running v q (Ran m b n) d
+ran-means accepted q m b n d e = by (eqb q 0) refl e
+  where
+    by : (c : Bool) → eqb q 0 ≡ c → Ran m b n ≡ pick c d (Refused q 0) → Running accepted q (Ran m b n) d
+    by true z x = record { table = refl; call = eqb-true q 0 z; is = x }
+    by false z x = absurd (let y : _≡_ {A = ℕ} 0 1 = cc in omega arith)
+ran-means (refused p f) q m b n d e = absurd (let y : _≡_ {A = ℕ} 0 1 = cc in omega arith)
 
 -- ---- the refusals that are none
 pub load-none : (S : Shape) (s : List ℕ) → loadRefusal S s ≡ 0 → need S ≤ length s
@@ -79,13 +92,3 @@ event-none T S s o birth values = by (ofSource T S o) (ltb (nowOf s) birth) (eqb
     by true true c e z = absurd (omega arith)
     by true false c e z = ltb-false (nowOf s) birth e
     by false b c e z = absurd (omega arith)
-
--- ---- a refused call leaves a list as it came
-pub refused-kept : (v : Verdict) (q : ℕ) (d : Answer) (s s′ : List ℕ) → (numberOf d ≡ 0) → (numberOf (answerBy v q d) ≡ 0 → ⊥) → keptBy v q s s′ ≡ s
-unfolding choose
-refused-kept (refused p f) q d s s′ z n = refl
-refused-kept accepted q d s s′ z n = by (eqb q 0) n
-  where
-    by : (b : Bool) → (numberOf (pick b d (Refused q 0)) ≡ 0 → ⊥) → choose b s′ s ≡ s
-    by true m = absurd (m z)
-    by false m = refl
