@@ -27,8 +27,8 @@ use Rattle.fire.specs.Fire.{fire}
 use Rattle.moves.specs.Act.{oneStep, stepMove, fireAny, endMove, act, actMove}
 use Rattle.moves.specs.Next.{blockMove}
 use Rattle.load.specs.WellFormed.{stepOk}
-use Rattle.effects.specs.Lawful.{Lawful}
-use Rattle.effects.specs.Moving.{change-leaves, idle-leaves, one-step-leaves, fire-any-leaves}
+use Rattle.parts.specs.Lawful.{Lawful}
+use Rattle.moves.specs.Moving.{change-leaves, idle-leaves, one-step-leaves, fire-any-leaves}
 use Rattle.kept.specs.Formed.{Parts, Mode, Owner, Busy, Formed}
 use Rattle.kept.specs.Keeping.{entered-mode}
 use Rattle.kept.specs.Blocks.{rerun-formed, idle-formed, change-formed}

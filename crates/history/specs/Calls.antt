@@ -22,8 +22,8 @@ use Rattle.owned.specs.Owned.{any, nth}
 use Rattle.take.specs.Take.{fireFound}
 use Rattle.load.specs.WellFormed.{latest as «largest»}
 use Rattle.run.specs.Calls.{dueAt, expired, expire, advanced, wrongTime, dueBefore, beyondDue, give, arrived}
-use Rattle.effects.specs.Lawful.{Lawful}
-use Rattle.effects.specs.Calling.{gives-leaves}
+use Rattle.parts.specs.Lawful.{Lawful}
+use Rattle.run.specs.Calling.{gives-leaves}
 use Rattle.kept.specs.Formed.{Formed}
 use Rattle.kept.specs.Blocks.{due-cleared, now-formed}
 use Rattle.history.specs.History.{begins, Log, fireLog, expireLog, advanceLog, arrivalLog}

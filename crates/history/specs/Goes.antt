@@ -13,9 +13,9 @@ use Rattle.store.specs.Word.{nowOf, runningOf, overwritten, waiting, lastUpdate
 use Rattle.parts.specs.Part.{Part, time, block, count, chart, due, input, sampled as «samples-part», buffered, nothing, Leaves, leaves-all, leaves-then, leaves-less}
 use Rattle.fire.specs.Fire.{fire}
 use Rattle.take.specs.Take.{sampled, fireFound}
-use Rattle.effects.specs.Lawful.{Lawful}
-use Rattle.effects.specs.Firing.{fire-leaves, fire-count}
-use Rattle.effects.specs.Taking.{sampled-leaves}
+use Rattle.parts.specs.Lawful.{Lawful}
+use Rattle.fire.specs.Firing.{fire-leaves, fire-count}
+use Rattle.take.specs.Taking.{sampled-leaves}
 use Rattle.kept.specs.Formed.{Formed}
 use Rattle.kept.specs.Blocks.{calm-formed}
 use Rattle.history.specs.History.{How, begins, goesOn, takes, fires, Log, more, fireLog}

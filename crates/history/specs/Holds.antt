@@ -21,10 +21,11 @@ use Rattle.parts.specs.Own.{Input, now-put}
 use Rattle.fire.specs.Carry.{voiceOf, carries}
 use Rattle.fire.specs.Fire.{fire}
 use Rattle.take.specs.Take.{sampled}
-use Rattle.effects.specs.Joined.{connected, associated, source, destination}
-use Rattle.effects.specs.Lawful.{Lawful}
-use Rattle.effects.specs.Firing.{Marked, fire-leaves, fire-marked, fire-buffer}
-use Rattle.effects.specs.Taking.{sampled-leaves, sampled-input, sampled-other, sampled-value}
+use Rattle.fire.specs.Joined.{connected}
+use Rattle.take.specs.Joined.{associated}
+use Rattle.parts.specs.Lawful.{source, destination, Lawful}
+use Rattle.fire.specs.Firing.{Marked, fire-leaves, fire-marked, fire-buffer}
+use Rattle.take.specs.Taking.{sampled-leaves, sampled-input, sampled-other, sampled-value}
 use Rattle.kept.specs.Formed.{Formed}
 use Rattle.kept.specs.Keeping.{fire-formed, sampled-formed}
 use Rattle.history.specs.History.{How, begins, goesOn, Happening, takes, fires, Log, empty, more}

@@ -1,6 +1,5 @@
 pub mod History
 pub mod Origin
-pub mod Leastness
 pub mod Holds
 pub mod Goes
 pub mod Taken

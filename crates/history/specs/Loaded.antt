@@ -8,8 +8,7 @@ use Rattle.table.specs.declared.Shape.{Shape}
 use Rattle.store.specs.declared.running.Running.{Running}
 use Rattle.store.specs.Layout.{need}
 use Rattle.load.specs.Load.{loaded}
-use Rattle.effects.specs.Joined.{destination}
-use Rattle.effects.specs.Lawful.{Lawful}
+use Rattle.parts.specs.Lawful.{destination, Lawful}
 use Rattle.kept.specs.Loading.{loaded-formed, loaded-value, loaded-buffer, loaded-rests, loaded-idle}
 use Rattle.history.specs.History.{empty}
 use Rattle.history.specs.Origin.{fresh, origin, lastSampled, lastCopied}

@@ -18,10 +18,10 @@ use Rattle.moves.specs.declared.Next.{Next}
 use Rattle.moves.specs.declared.Next.the-variants.{Take, Block, Still}
 use Rattle.moves.specs.Next.{fromBest, nextBy, nextOf, moveBy, move}
 use Rattle.run.specs.Run.{after}
-use Rattle.effects.specs.Lawful.{Lawful}
+use Rattle.parts.specs.Lawful.{Lawful}
 use Rattle.history.specs.History.{Log, moveLog, runLog}
 use Rattle.history.specs.Origin.{Begun}
-use Rattle.history.specs.Leastness.{least-means}
+use Rattle.least.specs.Leastness.{least-means}
 use Rattle.history.specs.Holds.{Holds}
 use Rattle.history.specs.Goes.{Goes, goes-start, goes-now}
 use Rattle.history.specs.Taken.{taken-goes}

@@ -12,7 +12,8 @@ use Rattle.fire.specs.Carry.{voiceOf, carries}
 use Rattle.take.specs.Take.{sampled}
 use Rattle.take.specs.Record.{head, values}
 use Rattle.load.specs.Load.{startValue}
-use Rattle.effects.specs.Joined.{connected, associated}
+use Rattle.fire.specs.Joined.{connected}
+use Rattle.take.specs.Joined.{associated}
 use Rattle.history.specs.History.{How, begins, goesOn, Happening, takes, fires, Log, empty, more}
 
 -- whose chain: of the event that waits at an event input, or of the event that was taken last

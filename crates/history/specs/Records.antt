@@ -27,11 +27,11 @@ use Rattle.moves.specs.declared.Next.{Next}
 use Rattle.moves.specs.declared.Next.the-variants.{Take, Block, Still}
 use Rattle.moves.specs.Next.{fromBest, nextBy, nextOf, writtenBy, written}
 use Rattle.run.specs.Run.{after, bytes}
-use Rattle.effects.specs.Lawful.{Lawful}
+use Rattle.parts.specs.Lawful.{Lawful}
 use Rattle.kept.specs.Formed.{InputFact}
 use Rattle.history.specs.History.{How, goesOn, takes, fires, Log, more, fireLog, takeLog, endLog, actLog, moveLog, runLog}
 use Rattle.history.specs.Origin.{Begun, waits, origin, recordsOf}
-use Rattle.history.specs.Leastness.{Least, least-means}
+use Rattle.least.specs.Leastness.{Least, least-means}
 use Rattle.history.specs.Holds.{Holds}
 use Rattle.history.specs.Goes.{Goes, goes-now}
 use Rattle.history.specs.Taken.{flag}

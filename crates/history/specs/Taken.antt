@@ -25,13 +25,13 @@ use Rattle.owned.specs.Owned.{any, nth}
 use Rattle.fire.specs.Partner.{inputOwner, partnerOutput}
 use Rattle.take.specs.Take.{sampled, passes, relay, ticksIn, dtOf, isStart, delay, wake, receive, taken}
 use Rattle.load.specs.WellFormed.{latest as «largest»}
-use Rattle.effects.specs.Lawful.{Lawful}
-use Rattle.effects.specs.Taking.{passes-leaves, delay-leaves, wake-leaves, sampled-leaves}
+use Rattle.parts.specs.Lawful.{Lawful}
+use Rattle.take.specs.Taking.{passes-leaves, delay-leaves, wake-leaves, sampled-leaves}
 use Rattle.kept.specs.Formed.{Formed}
 use Rattle.kept.specs.Blocks.{wake-formed, due-set, due-cleared}
 use Rattle.history.specs.History.{goesOn, takes, Log, more, fireLog, takeLog}
 use Rattle.history.specs.Origin.{Begun, waits, current, origin}
-use Rattle.history.specs.Leastness.{Least}
+use Rattle.least.specs.Leastness.{Least}
 use Rattle.history.specs.Holds.{Holds, quiet}
 use Rattle.history.specs.Goes.{Goes, take-goes, quiet-goes, calm-goes, fire-found-goes}
 

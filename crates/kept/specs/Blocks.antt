@@ -22,7 +22,7 @@ use Rattle.parts.specs.Own.{Due, now-put, element-put, event-put, running-put, 
 use Rattle.take.specs.Take.{wake}
 use Rattle.chart.specs.Chart.{actionOf, actionNumber, change, goIdle, elementOf, stateOf}
 use Rattle.load.specs.WellFormed.{latest, stepOk}
-use Rattle.effects.specs.Lawful.{StateOf, Lawful}
+use Rattle.parts.specs.Lawful.{StateOf, Lawful}
 use Rattle.kept.specs.Formed.{InputFact, DueFact, ChartFact, Parts, Rest, Mode, Owner, Busy, Block, Formed}
 use Rattle.kept.specs.Keeping.{same-charts, same-dues, same-event, same-buffers, kept-parts, calm-parts, busy-block, rest-block, same-rest, same-blocked, entered-mode}
 

@@ -11,7 +11,7 @@ use Rattle.store.specs.Layout.{need, inputs, variables, inputFrame, variableFra
 use Rattle.store.specs.Word.{nowOf, runningElement, currentEvent, runningOf, spares, spareWord, chartState, dueFlag, dueTime, waiting, birthOf, lastUpdate, buffer}
 use Rattle.chart.specs.Chart.{actionOf}
 use Rattle.load.specs.WellFormed.{latest, stepOk}
-use Rattle.effects.specs.Lawful.{StateOf}
+use Rattle.parts.specs.Lawful.{StateOf}
 
 -- "A waiting event has birth ≤ last update ≤ now, others zeros." "Flags are 0 or 1."
 pub record InputFact (S : Shape) (s : List ℕ) (i : ℕ) : Type 0 where

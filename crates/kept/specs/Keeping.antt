@@ -25,10 +25,10 @@ use Rattle.fire.specs.Untouched.{fire-untouched}
 use Rattle.take.specs.Take.{sampled, wake}
 use Rattle.chart.specs.Chart.{actionOf, orZero, actionNumber, change, goIdle, elementOf, stateOf}
 use Rattle.load.specs.WellFormed.{latest, stepOk}
-use Rattle.effects.specs.Joined.{connected, destination}
-use Rattle.effects.specs.Lawful.{StateOf, Lawful}
-use Rattle.effects.specs.Firing.{Marked, fire-leaves, fire-marked}
-use Rattle.effects.specs.Taking.{sampled-leaves, sampled-input, sampled-other}
+use Rattle.fire.specs.Joined.{connected}
+use Rattle.parts.specs.Lawful.{destination, StateOf, Lawful}
+use Rattle.fire.specs.Firing.{Marked, fire-leaves, fire-marked}
+use Rattle.take.specs.Taking.{sampled-leaves, sampled-input, sampled-other}
 use Rattle.kept.specs.Formed.{InputFact, DueFact, ChartFact, Parts, Rest, Mode, Owner, Busy, Block, Formed}
 
 -- ---- a part that is not touched keeps its facts

@@ -26,7 +26,7 @@ use Rattle.parts.specs.Writer.{leaves-chart, leaves-value, leaves-buffer}
 use Rattle.parts.specs.Own.{chart-put, chart-other, value-put, value-other, buffer-put, buffer-value}
 use Rattle.load.specs.WellFormed.{latest}
 use Rattle.load.specs.Load.{zeroes, initial, startValue, start, loaded}
-use Rattle.effects.specs.Lawful.{Lawful}
+use Rattle.parts.specs.Lawful.{Lawful}
 use Rattle.kept.specs.Formed.{InputFact, DueFact, ChartFact, Parts, Rest, Block, Formed}
 use Rattle.kept.specs.Keeping.{rest-block}
 

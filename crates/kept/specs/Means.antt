@@ -18,7 +18,7 @@ use Rattle.store.specs.Layout.{need, inputs, variables, states, inputFrame, var
 use Rattle.store.specs.Word.{nowOf, runningElement, currentEvent, runningOf, spares, spareWord, chartState, dueFlag, dueTime, waiting, birthOf, lastUpdate, buffer}
 use Rattle.chart.specs.Chart.{actionOf}
 use Rattle.load.specs.WellFormed.{latest, spareOk, restOk, ownerOk, stepOk, modeOk, runningOk, chartOk, dueOk, elementOk, inputOk, variableOk, partsOk, wellFormed}
-use Rattle.effects.specs.Lawful.{StateOf}
+use Rattle.parts.specs.Lawful.{StateOf}
 use Rattle.kept.specs.Formed.{InputFact, DueFact, ChartFact, Parts, Rest, Mode, Owner, Busy, Block, Formed}
 
 -- ---- from the test

@@ -17,8 +17,7 @@ use Rattle.run.specs.Run.{bytes}
 use Rattle.xaluudhiga.specs.declared.calls.Answer.{Answer}
 use Rattle.xaluudhiga.specs.declared.calls.Answer.the-variants.{Done}
 use Rattle.xaluudhiga.specs.Calls.{keptBy, loadRefusal, storeRefusal, runMoves, LoadCall, RunCall}
-use Rattle.effects.specs.Joined.{source, destination}
-use Rattle.effects.specs.Lawful.{lawful}
+use Rattle.parts.specs.Lawful.{source, destination, lawful}
 use Rattle.history.specs.History.{Log, empty, runLog}
 use Rattle.history.specs.Origin.{fresh, Ordered, waits, current, origin, lastSampled, lastCopied, recordsOf}
 use Rattle.history.specs.Holds.{Holds}

@@ -20,7 +20,7 @@ use Rattle.run.specs.Run.{after}
 use Rattle.run.specs.Calls.{advanced, arrived}
 use Rattle.xaluudhiga.specs.declared.calls.Answer.{Answer}
 use Rattle.xaluudhiga.specs.Calls.{keptBy, storeRefusal, timeRefusal, advanceRefusal, eventRefusal, arrivalRefusal, runMoves, AdvanceCall, ArrivalCall, RunCall}
-use Rattle.effects.specs.Lawful.{Lawful, lawful}
+use Rattle.parts.specs.Lawful.{Lawful, lawful}
 use Rattle.history.specs.History.{Log, advanceLog, arrivalLog, runLog}
 use Rattle.history.specs.Origin.{Begun}
 use Rattle.history.specs.Holds.{Holds}

@@ -1,3 +1,4 @@
 pub mod Act
 pub mod Next
 pub mod Sizes
+pub mod Moving

@@ -1,3 +1,4 @@
 pub mod Part
 pub mod Writer
 pub mod Own
+pub mod Lawful

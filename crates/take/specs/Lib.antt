@@ -1,3 +1,5 @@
 pub mod Take
 pub mod Record
 pub mod Sizes
+pub mod Joined
+pub mod Taking

@@ -19,16 +19,16 @@ use Rattle.store.specs.Running.{awake}
 use Rattle.store.specs.Word.{putOwner, putRunning, putDue, putInput, value, putValue, buffer}
 use Rattle.store.specs.Laws.{buffer-putInput, value-putInput}
 use Rattle.parts.specs.Part.{Part, block, count, due, input, sampled as «samples-part», buffered, just, everything, Leaves, SameInput, leaves-all, leaves-then}
+use Rattle.parts.specs.Lawful.{Lawful}
 use Rattle.parts.specs.Writer.{leaves-owner, leaves-running, leaves-due, leaves-input, leaves-value}
 use Rattle.parts.specs.Own.{Input, input-put, input-other, value-put, value-other, buffer-value}
 use Rattle.owned.specs.Owned.{any, belongs, rank, isNth}
 use Rattle.fire.specs.Partner.{partnerOutput, partnerVariable, variableOwner}
 use Rattle.fire.specs.Carry.{voice, speaks}
 use Rattle.fire.specs.Fire.{fire}
+use Rattle.fire.specs.Firing.{fire-leaves}
 use Rattle.take.specs.Take.{sample, samples, sampled, passTo, pass, passes, fireFound, relay, dtOf, isStart, delay, wake}
-use Rattle.effects.specs.Joined.{joins, associated}
-use Rattle.effects.specs.Lawful.{Lawful}
-use Rattle.effects.specs.Firing.{fire-leaves}
+use Rattle.take.specs.Joined.{joins, associated}
 
 -- an interface's partner is one of its output variables
 pub partner-output : (T : List ℕ) (S : Shape) (v u : ℕ) → partnerVariable T S v ≡ one u → (u < variables S) × (flagAt T (variableFrame S u) ≡ 1)

@@ -20,13 +20,13 @@ use Rattle.store.specs.Word.{overwritten, putOverwritten, waiting, birthOf, las
 use Rattle.store.specs.Good.{Good}
 use Rattle.store.specs.Laws.{buffer-putBuffer, value-putBuffer}
 use Rattle.parts.specs.Part.{Part, count, input, buffered, just, also, everything, Leaves, SameInput, leaves-all, leaves-then}
+use Rattle.parts.specs.Lawful.{Lawful, source, destination}
 use Rattle.parts.specs.Writer.{leaves-overwritten, leaves-input, leaves-buffer}
 use Rattle.parts.specs.Own.{Input, input-put, input-other, overwritten-put, buffer-put}
 use Rattle.fire.specs.Carry.{voiceOf, carries}
 use Rattle.fire.specs.Fire.{counted, mark, connect, connects, copyIf, copies, fire}
 use Rattle.fire.specs.Untouched.{copies-value, fire-value}
-use Rattle.effects.specs.Joined.{runs, connected, source, destination}
-use Rattle.effects.specs.Lawful.{Lawful}
+use Rattle.fire.specs.Joined.{runs, connected}
 
 module _ (T : List ℕ) (S : Shape) (k : Lawful T S) where
   -- ---- what it leaves

@@ -12,7 +12,13 @@ use Rattle.table.specs.Accepted.{Accepted}
 use Rattle.store.specs.Layout.{variables, associations, states, transitions, steps, links, variableFrame, associationFrame, stateFrame, transitionFrame, stepFrame, linkFrame}
 use Rattle.store.specs.Good.{Good}
 use Rattle.store.specs.Accepted.{good}
-use Rattle.effects.specs.Joined.{source, destination}
+
+-- the variables that data connection j runs between
+abbrev pub source : List ℕ → Shape → ℕ → ℕ
+source T S j = fieldAt T (linkFrame S j) 0
+
+abbrev pub destination : List ℕ → Shape → ℕ → ℕ
+destination T S j = fieldAt T (linkFrame S j) 1
 
 -- state q is one of element el
 pub record StateOf (T : List ℕ) (S : Shape) (q el : ℕ) : Type 0 where

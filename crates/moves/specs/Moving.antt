@@ -17,12 +17,12 @@ use Rattle.store.specs.Layout.{steps, transitionFrame, stepFrame}
 use Rattle.store.specs.Running.{rest, entered}
 use Rattle.store.specs.Word.{putOwner, putRunning, putChartState, value, putValue}
 use Rattle.parts.specs.Part.{Part, block, count, chart as «charts», input, buffered, Leaves, leaves-all, leaves-then}
+use Rattle.parts.specs.Lawful.{Lawful}
 use Rattle.parts.specs.Writer.{leaves-owner, leaves-running, leaves-chart, leaves-value}
 use Rattle.fire.specs.Fire.{fire}
+use Rattle.fire.specs.Firing.{fire-leaves}
 use Rattle.chart.specs.Chart.{actionNumber, change, goIdle}
 use Rattle.moves.specs.Act.{oneStep, fireAny}
-use Rattle.effects.specs.Lawful.{Lawful}
-use Rattle.effects.specs.Firing.{fire-leaves}
 
 module _ (T : List ℕ) (S : Shape) (k : Lawful T S) (f : Part → Bool) where
   pub change-leaves : f block ≡ true → f «charts» ≡ true → (el : ℕ) (r : Running) (j : ℕ) (s : List ℕ) → el < S .elements → Leaves T S f s (change T S el r j s)

@@ -15,10 +15,10 @@ use Rattle.table.specs.declared.Shape.{Shape}
 use Rattle.store.specs.Layout.{associations, associationFrame}
 use Rattle.store.specs.Word.{putValue}
 use Rattle.parts.specs.Part.{Part, Leaves, leaves-all, leaves-then}
+use Rattle.parts.specs.Lawful.{Lawful}
 use Rattle.parts.specs.Writer.{leaves-value}
 use Rattle.fire.specs.Carry.{voice, speaks}
 use Rattle.run.specs.Calls.{give}
-use Rattle.effects.specs.Lawful.{Lawful}
 
 module _ (T : List ℕ) (S : Shape) (k : Lawful T S) (f : Part → Bool) where
   -- a variable of an output association is no input
