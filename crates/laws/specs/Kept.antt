@@ -8,7 +8,7 @@ use native.Mathlib.Omega.{arith}
 use lib.Dec.{eqb, ltb}
 use lib.ListN.{length, getD, set}
 use lib.Seq.{sets, length-sets, getD-set-other}
-use borrow.Author.Tests.{eqb-true, le-ltb}
+use borrow.Author.Tests.{eqb-true}
 use Rattle.walk.specs.Pick.{pick, both}
 use Rattle.walk.specs.Choose.{choose}
 use Rattle.walk.specs.Held.{held}
@@ -26,13 +26,13 @@ use Rattle.xaluudhiga.specs.declared.calls.Answer.the-variants.{Refused, Done, 
 use Rattle.xaluudhiga.specs.Calls.{movesOf, bytesOf, stopOf, answerBy, keptBy, loadRefusal, storeRefusal, orElse, timeRefusal, advanceRefusal, eventRefusal, arrivalRefusal, runMoves, LoadCall, AdvanceCall, ArrivalCall, RunCall, runAnswer}
 use Rattle.kept.specs.Formed.{Formed}
 use Rattle.kept.specs.Means.{formed-tests}
-use Rattle.history.specs.History.{Log, empty}
+use Rattle.history.specs.History.{empty}
 use Rattle.history.specs.Origin.{asFound}
 use Rattle.history.specs.Holds.{Holds, found-holds}
-use Rattle.laws.specs.Sequence.{Since, loads}
+use Rattle.laws.specs.Sequence.{loads}
 use Rattle.laws.specs.Refusals.{Accepting, done-means, ran-means, load-none, store-formed, or-else-none}
 use Rattle.laws.specs.Steps.{Steady, steady-all, Step, advance-step, arrival-step, run-step}
-use Rattle.laws.specs.Demand3.{lawfully}
+use Rattle.laws.specs.Lawfully.{lawfully}
 
 -- ---- "A refusal returns its number ..; nothing is written."
 refused-keeps : (v : Verdict) (q p f : ℕ) (d : Answer) (s x : List ℕ) → ((a b : ℕ) → d ≡ Refused a b → ⊥) → Refused p f ≡ answerBy v q d → keptBy v q s x ≡ s
@@ -165,13 +165,6 @@ module _ (T s s′ : List ℕ) where
       let S = shapeOf T in
       let w = ran-means (judge T) (storeRefusal T S s) m b n _ (c .answer) in
       formed-tests T S s′ (run-step T (w .table) (asFound S s) empty s (found-holds T S s (store-formed T S s (w .call))) s′ out out′ budget (Ran m b n) c .holds .formed)
-
--- so after an accepted load no call on that table and store is ever refused 5 or 6
-pub never-refused : (T s : List ℕ) (l : Log) → Since T s l → storeRefusal T (shapeOf T) s ≡ 0
-unfolding storeRefusal
-never-refused T s l w =
-    let f = lawfully T s l w .holds .formed in
-    rw (le-ltb (length s) (need (shapeOf T)) (f .parts .long), formed-tests T (shapeOf T) s f)
 
 -- ---- progress: a run that has budget left over stops for want of a move (1) or of room (3)
 stop-why : (a b : Bool) → both a b ≡ false → (_≡_ {A = ℕ} (pick a (pick b 2 3) 1) 1) ⊎ (_≡_ {A = ℕ} (pick a (pick b 2 3) 1) 3)

@@ -26,7 +26,8 @@ use Rattle.owned.specs.Owned.{any, belongs, rank, isNth}
 use Rattle.fire.specs.Partner.{partnerOutput, partnerVariable, variableOwner}
 use Rattle.fire.specs.Carry.{voice, speaks}
 use Rattle.fire.specs.Fire.{fire}
-use Rattle.fire.specs.Firing.{fire-leaves}
+use Rattle.fire.specs.Joined.{connected}
+use Rattle.fire.specs.Firing.{Marked, fire-leaves, fire-marked}
 use Rattle.take.specs.Take.{sample, samples, sampled, passTo, pass, passes, fireFound, relay, dtOf, isStart, delay, wake}
 use Rattle.take.specs.Joined.{joins, associated}
 
@@ -179,3 +180,11 @@ module _ (T : List ℕ) (S : Shape) (k : Lawful T S) where
   unfolding fireFound
   fire-found-leaves f wr ct bf (one o) birth t s = fire-leaves T S k f wr ct bf o birth t s
   fire-found-leaves f wr ct bf missing birth t s = leaves-all T S f s
+
+  -- ---- an interface fires its partner event with the birth of the event taken: what that reaches waits with it, and its last update is now
+  pub relay-marked : (i o birth t c : ℕ) (s : List ℕ) → need S ≤ length s → c < inputs S → partnerOutput T S i ≡ one o
+      → Marked T S k o birth t c (passes T S i s) (connected T S o c) (relay T S i birth t s)
+  unfolding relay fireFound
+  relay-marked i o birth t c s long l e =
+      let q = passes-leaves everything i s .long in
+      rw e (fire-marked T S k o birth t c (passes T S i s) (omega arith) l)
