@@ -1,23 +1,22 @@
 -- What firing an event does to the event inputs and the buffers, and what it leaves.
-use mathlib.Core.Path.{_≡_, refl, sym, ap, _∙_}
+use mathlib.Core.Path.{_≡_, refl, sym, _∙_}
 use mathlib.Core.List.{List}
 use mathlib.Core.Bool.{Bool, true, false}
-use mathlib.Core.Logic.{_⊎_, inl, inr, ⊎-elim}
-use Prim.Native.Nat.{ℕ, zero, suc, _+_, _≤_, _<_}
+use mathlib.Core.Logic.{_⊎_, ⊎-elim}
+use Prim.Native.Nat.{ℕ, suc, _+_, _≤_, _<_}
 use native.Mathlib.Nat.{eq-or-lt-of-le, le-of-suc-le-suc, not-suc-le-zero}
 use native.Mathlib.Omega.{arith}
 use lib.Dec.{eqb, ltb}
 use lib.ListN.{length}
 use borrow.Author.Tests.{eqb-true, eqb-false}
-use Rattle.walk.specs.Pick.{pick, both, either, by-test, either-false, either-true, clash, tri, test-cases}
-use Rattle.walk.specs.Choose.{choose, choose-true, choose-false, by-choose}
+use Rattle.walk.specs.Pick.{pick, both, either, by-test, either-false, either-true, clash}
+use Rattle.walk.specs.Choose.{choose, by-choose}
 use Rattle.walk.specs.All.{anyTo}
 use Rattle.walk.specs.Walk.{upTo, upTo-keeps, upTo-carries}
 use Rattle.frames.specs.Frame.{fieldAt}
 use Rattle.table.specs.declared.Shape.{Shape}
-use Rattle.store.specs.Layout.{need, inputs, variables, connections, links, connectionFrame, linkFrame}
-use Rattle.store.specs.Word.{overwritten, putOverwritten, waiting, birthOf, lastUpdate, putInput, value, buffer, putBuffer}
-use Rattle.store.specs.Good.{Good}
+use Rattle.store.specs.Layout.{need, inputs, connections, links, connectionFrame}
+use Rattle.store.specs.Word.{overwritten, putOverwritten, waiting, putInput, value, buffer, putBuffer}
 use Rattle.store.specs.Laws.{buffer-putBuffer, value-putBuffer}
 use Rattle.parts.specs.Part.{Part, count, input, buffered, just, also, everything, Leaves, SameInput, leaves-all, leaves-then}
 use Rattle.parts.specs.Lawful.{Lawful, source, destination}
@@ -93,14 +92,14 @@ module _ (T : List ℕ) (S : Shape) (k : Lawful T S) where
       let x = connects T S o birth t s in
       let q = copies-leaves (just buffered) refl (carries T S (voiceOf T S o)) x .counted refl in
       let w =
-        upTo-keeps (Grown s) (connect T S o birth t) (connections S) s
-        (λ j l y g.
-        by-choose (Grown s) (eqb (fieldAt T (connectionFrame S j) 0) o) (mark S birth t (fieldAt T (connectionFrame S j) 1) y) y
-        (λ _.
-        let b = k .is-good .connection-input j l in
-        let m = mark-count birth t (fieldAt T (connectionFrame S j) 1) y (g .long) b in
-        let z = mark-leaves everything refl refl birth t (fieldAt T (connectionFrame S j) 1) y b .long in
-        record { more = let a = g .more in omega arith; long = let a = g .long in omega arith }) (λ _. g)) (record { more = omega arith; long = long }) in
+      upTo-keeps (Grown s) (connect T S o birth t) (connections S) s
+      (λ j l y g.
+      by-choose (Grown s) (eqb (fieldAt T (connectionFrame S j) 0) o) (mark S birth t (fieldAt T (connectionFrame S j) 1) y) y
+      (λ _.
+      let b = k .is-good .connection-input j l in
+      let m = mark-count birth t (fieldAt T (connectionFrame S j) 1) y (g .long) b in
+      let z = mark-leaves everything refl refl birth t (fieldAt T (connectionFrame S j) 1) y b .long in
+      record { more = let a = g .more in omega arith; long = let a = g .long in omega arith }) (λ _. g)) (record { more = omega arith; long = long }) in
       let m = w .more in
       omega arith
 
@@ -223,8 +222,8 @@ module _ (T : List ℕ) (S : Shape) (k : Lawful T S) where
         → buffer S (upTo (copyIf T S p) (links S) s) (destination T S j) ≡ choose (p (source T S j)) (value S s (source T S j)) (buffer S s (destination T S j))
     copies-buffer long l =
         let w =
-          upTo-carries Copied (copyIf T S p) (links S) s (λ c h x m. step l c h x m)
-          (record { long = long; values = λ v. refl; before = λ h. refl; past = λ h. absurd (not-suc-le-zero h) }) in
+        upTo-carries Copied (copyIf T S p) (links S) s (λ c h x m. step l c h x m)
+        (record { long = long; values = λ v. refl; before = λ h. refl; past = λ h. absurd (not-suc-le-zero h) }) in
         w .past l
 
   pub fire-buffer : (o birth t j : ℕ) (s : List ℕ) → need S ≤ length s → j < links S

@@ -2,23 +2,21 @@
 use mathlib.Core.Path.{_≡_, refl, sym, ap, _∙_}
 use mathlib.Core.List.{List}
 use mathlib.Core.Bool.{Bool, true, false}
-use mathlib.Core.Logic.{_⊎_, ⊎-elim}
 use Prim.Native.Nat.{ℕ, _+_, _-_, _≤_, _<_}
 use native.Mathlib.Omega.{arith}
-use lib.Dec.{eqb, ltb, leb}
-use lib.ListN.{length}
+use lib.Dec.{eqb, ltb}
 use borrow.Author.Tests.{eqb-true, eqb-false, ltb-true, le-leb}
 use Rattle.walk.specs.Pick.{both, both-left, both-right}
 use Rattle.walk.specs.Choose.{choose}
 use Rattle.walk.specs.First.{Sought, one, missing, first-means}
 use Rattle.frames.specs.Kind.{none}
-use Rattle.frames.specs.Frame.{flagAt, fieldAt}
+use Rattle.frames.specs.Frame.{fieldAt}
 use Rattle.table.specs.declared.Shape.{Shape}
 use Rattle.store.specs.declared.running.Running.{Running}
-use Rattle.store.specs.Layout.{need, actions, steps, transitions, transitionFrame, actionFrame, stepFrame}
+use Rattle.store.specs.Layout.{transitions, transitionFrame, actionFrame, stepFrame}
 use Rattle.store.specs.Running.{rest, entered, stepped, charting}
 use Rattle.store.specs.Word.{nowOf, runningElement, currentEvent, putOwner, runningOf, putRunning, chartState, putChartState}
-use Rattle.parts.specs.Part.{Part, block, count, chart as «charts», input, buffered, just, also, nothing, everything, Leaves}
+use Rattle.parts.specs.Part.{block, count, input, buffered, just, also, nothing, everything}
 use Rattle.parts.specs.Writer.{leaves-owner, leaves-running, leaves-chart}
 use Rattle.parts.specs.Own.{running-put}
 use Rattle.chart.specs.Chart.{heard, guardHolds, enabled, transitionOf, actionOf, actionNumber, change, goIdle, chart, elementOf, stateOf, chartMove}
@@ -29,12 +27,12 @@ use Rattle.moves.specs.Next.{blockMove}
 use Rattle.load.specs.WellFormed.{stepOk}
 use Rattle.parts.specs.Lawful.{Lawful}
 use Rattle.moves.specs.Moving.{change-leaves, idle-leaves, one-step-leaves, fire-any-leaves}
-use Rattle.kept.specs.Formed.{Parts, Mode, Owner, Busy, Formed}
+use Rattle.kept.specs.Formed.{Mode, Owner, Busy}
 use Rattle.kept.specs.Keeping.{entered-mode}
 use Rattle.kept.specs.Blocks.{rerun-formed, idle-formed, change-formed}
 use Rattle.history.specs.History.{goesOn, fires, Log, more, endLog, actLog}
 use Rattle.history.specs.Origin.{Begun, current, origin}
-use Rattle.history.specs.Holds.{Holds, quiet}
+use Rattle.history.specs.Holds.{quiet}
 use Rattle.history.specs.Goes.{Goes, fire-goes, quiet-goes, calm-goes}
 
 module _ (T : List ℕ) (S : Shape) (B : Begun) (k : Lawful T S) (s₀ : List ℕ) where

@@ -1,21 +1,21 @@
 -- Advance and arrival keep the laws, where nothing refuses them.
 use mathlib.Core.Path.{_≡_, refl, sym, ap, _∙_}
 use mathlib.Core.List.{List}
-use mathlib.Core.Bool.{Bool, true, false, not}
+use mathlib.Core.Bool.{Bool, true, false}
 use mathlib.Core.Logic.{_⊎_, ⊎-elim}
 use Prim.Native.Nat.{ℕ, zero, suc, _≤_, _<_}
 use native.Mathlib.Omega.{arith}
-use lib.Dec.{eqb, ltb}
-use borrow.Author.Tests.{eqb-true, eqb-false, ne-eqb, ltb-true, ltb-false}
-use Rattle.walk.specs.Pick.{both, either, test-cases, either-true, clash}
-use Rattle.walk.specs.All.{anyTo, any-at}
+use lib.Dec.{ltb}
+use borrow.Author.Tests.{ne-eqb, ltb-false}
+use Rattle.walk.specs.Pick.{either, test-cases, clash}
+use Rattle.walk.specs.All.{any-at}
 use Rattle.walk.specs.Choose.{choose}
 use Rattle.walk.specs.Walk.{upTo}
 use Rattle.table.specs.declared.Shape.{Shape}
 use Rattle.store.specs.declared.running.Running.{Running}
 use Rattle.store.specs.Layout.{outputs, associations}
-use Rattle.store.specs.Word.{nowOf, putNow, runningOf, dueFlag, dueTime, putDue}
-use Rattle.parts.specs.Part.{due, just, nothing, Leaves}
+use Rattle.store.specs.Word.{nowOf, putNow, dueFlag, dueTime, putDue}
+use Rattle.parts.specs.Part.{due, just}
 use Rattle.parts.specs.Writer.{leaves-due}
 use Rattle.parts.specs.Own.{now-put}
 use Rattle.owned.specs.Owned.{any, nth}
@@ -24,7 +24,6 @@ use Rattle.load.specs.WellFormed.{latest as «largest»}
 use Rattle.run.specs.Calls.{dueAt, expired, expire, advanced, wrongTime, dueBefore, beyondDue, give, arrived}
 use Rattle.parts.specs.Lawful.{Lawful}
 use Rattle.run.specs.Calling.{gives-leaves}
-use Rattle.kept.specs.Formed.{Formed}
 use Rattle.kept.specs.Blocks.{due-cleared, now-formed}
 use Rattle.history.specs.History.{begins, Log, fireLog, expireLog, advanceLog, arrivalLog}
 use Rattle.history.specs.Origin.{Begun}

@@ -18,7 +18,7 @@ use Rattle.fire.specs.Firing.{fire-leaves, fire-count}
 use Rattle.take.specs.Taking.{sampled-leaves}
 use Rattle.kept.specs.Formed.{Formed}
 use Rattle.kept.specs.Blocks.{calm-formed}
-use Rattle.history.specs.History.{How, begins, goesOn, takes, fires, Log, more, fireLog}
+use Rattle.history.specs.History.{How, takes, fires, Log, more, fireLog}
 use Rattle.history.specs.Origin.{Begun, current, origin}
 use Rattle.history.specs.Holds.{Holds, birthBy, quiet, fire-holds, take-holds, quiet-holds}
 

@@ -1,9 +1,8 @@
 -- What happens in a sequence of calls since a load: each event taken and each event fired, in order, with the store at that moment. It is written down
 -- beside the moves of document 01 and nowhere else.
-use Prim.Native.Nat.{ℕ, zero, suc, _+_}
+use Prim.Native.Nat.{ℕ, zero, suc}
 use mathlib.Core.List.{List}
 use lib.Dec.{eqb, ltb}
-use lib.ListN.{length}
 use Rattle.walk.specs.Choose.{choose}
 use Rattle.walk.specs.First.{Sought, one, missing}
 use Rattle.walk.specs.Walk.{upTo}
@@ -12,7 +11,7 @@ use Rattle.frames.specs.Frame.{flagAt, fieldAt}
 use Rattle.table.specs.declared.Shape.{Shape}
 use Rattle.store.specs.declared.running.Running.{Running}
 use Rattle.store.specs.Layout.{outputs, associations, actionFrame}
-use Rattle.store.specs.Word.{nowOf, putNow}
+use Rattle.store.specs.Word.{putNow}
 use Rattle.owned.specs.Owned.{any, nth}
 use Rattle.fire.specs.Partner.{inputOwner, partnerOutput}
 use Rattle.chart.specs.Chart.{actionOf, stateOf}

@@ -1,7 +1,7 @@
 -- The four laws of demand 3 as facts of a log and a store, and each kind of change that the machine makes: a firing, a taking, a quiet change, a new time.
 use mathlib.Core.Path.{_≡_, refl, sym, ap, _∙_}
 use mathlib.Core.List.{List}
-use mathlib.Core.Bool.{Bool, true, false}
+use mathlib.Core.Bool.{Bool}
 use mathlib.Core.Logic.{_⊎_, ⊎-elim}
 use Prim.Native.Nat.{ℕ, _≤_, _<_}
 use native.Mathlib.Omega.{arith}
@@ -17,7 +17,7 @@ use Rattle.store.specs.Layout.{need, inputs, variables, links, variableFrame}
 use Rattle.store.specs.Word.{nowOf, putNow, runningOf, waiting, birthOf, lastUpdate, value, buffer}
 use Rattle.parts.specs.Part.{Part, time, block, count, chart, due, input, sampled as «samples-part», buffered, just, also, SameInput, Leaves}
 use Rattle.parts.specs.Writer.{leaves-now}
-use Rattle.parts.specs.Own.{Input, now-put}
+use Rattle.parts.specs.Own.{now-put}
 use Rattle.fire.specs.Carry.{voiceOf, carries}
 use Rattle.fire.specs.Fire.{fire}
 use Rattle.take.specs.Take.{sampled}
@@ -28,8 +28,8 @@ use Rattle.fire.specs.Firing.{Marked, fire-leaves, fire-marked, fire-buffer}
 use Rattle.take.specs.Taking.{sampled-leaves, sampled-input, sampled-other, sampled-value}
 use Rattle.kept.specs.Formed.{Formed}
 use Rattle.kept.specs.Keeping.{fire-formed, sampled-formed}
-use Rattle.history.specs.History.{How, begins, goesOn, Happening, takes, fires, Log, empty, more}
-use Rattle.history.specs.Origin.{Begun, asFound, latest, Ordered, Event, waits, current, origin, lastSampled, lastCopied}
+use Rattle.history.specs.History.{How, begins, goesOn, takes, fires, Log, empty, more}
+use Rattle.history.specs.Origin.{Begun, asFound, latest, Ordered, waits, current, origin, lastSampled, lastCopied}
 
 -- ---- the laws
 -- events were taken in order, and no event that waits is earlier than they

@@ -1,21 +1,17 @@
 -- One move, and any number of them, keep the laws.
-use mathlib.Core.Path.{_≡_, refl, sym, ap, _∙_}
+use mathlib.Core.Path.{_≡_, refl}
 use mathlib.Core.List.{List}
 use mathlib.Core.Bool.{Bool, true, false}
-use Prim.Native.Nat.{ℕ, zero, suc, _≤_, _<_}
+use Prim.Native.Nat.{ℕ, zero, suc}
 use lib.Dec.{eqb}
 use borrow.Author.Tests.{eqb-true, eqb-false}
 use Rattle.walk.specs.Choose.{choose}
 use Rattle.table.specs.declared.Shape.{Shape}
-use Rattle.store.specs.declared.running.Running.{Running}
-use Rattle.store.specs.Layout.{inputs}
 use Rattle.store.specs.Word.{nowOf, runningOf}
-use Rattle.least.specs.declared.Key.{Key}
 use Rattle.least.specs.declared.Best.{Best}
 use Rattle.least.specs.declared.Best.the-variants.{At, Nothing}
 use Rattle.least.specs.Least.{least}
-use Rattle.moves.specs.declared.Next.{Next}
-use Rattle.moves.specs.declared.Next.the-variants.{Take, Block, Still}
+use Rattle.moves.specs.declared.Next.the-variants.{Block}
 use Rattle.moves.specs.Next.{fromBest, nextBy, nextOf, moveBy, move}
 use Rattle.run.specs.Run.{after}
 use Rattle.parts.specs.Lawful.{Lawful}

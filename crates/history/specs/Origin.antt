@@ -14,7 +14,7 @@ use Rattle.take.specs.Record.{head, values}
 use Rattle.load.specs.Load.{startValue}
 use Rattle.fire.specs.Joined.{connected}
 use Rattle.take.specs.Joined.{associated}
-use Rattle.history.specs.History.{How, begins, goesOn, Happening, takes, fires, Log, empty, more}
+use Rattle.history.specs.History.{begins, goesOn, takes, fires, Log, empty, more}
 
 -- whose chain: of the event that waits at an event input, or of the event that was taken last
 pub data Event : Type 0 where

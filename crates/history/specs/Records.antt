@@ -2,36 +2,31 @@
 use mathlib.Core.Path.{_≡_, refl, sym, ap, _∙_}
 use mathlib.Core.List.{List, [], _++_, append-nil, append-assoc}
 use mathlib.Core.Bool.{Bool, true, false}
-use Prim.Native.Nat.{ℕ, zero, suc, _≤_, _<_}
-use native.Mathlib.Omega.{arith}
+use Prim.Native.Nat.{ℕ, zero, suc}
 use lib.Dec.{eqb, ltb}
-
-use borrow.Author.Tests.{eqb-true, eqb-false}
+use borrow.Author.Tests.{eqb-true}
 use Rattle.walk.specs.Choose.{choose}
 use Rattle.walk.specs.First.{Sought, one, missing}
 use Rattle.frames.specs.Kind.{none}
 use Rattle.frames.specs.Frame.{flagAt, fieldAt}
 use Rattle.table.specs.declared.Shape.{Shape}
 use Rattle.store.specs.declared.running.Running.{Running}
-use Rattle.store.specs.Layout.{inputs, actionFrame}
-use Rattle.store.specs.Word.{nowOf, runningOf, waiting, birthOf, lastUpdate}
+use Rattle.store.specs.Layout.{actionFrame}
+use Rattle.store.specs.Word.{nowOf, runningOf, birthOf, lastUpdate}
 use Rattle.fire.specs.Partner.{inputOwner, partnerOutput}
-use Rattle.least.specs.declared.Key.{Key}
 use Rattle.least.specs.declared.Best.{Best}
 use Rattle.least.specs.declared.Best.the-variants.{At, Nothing}
 use Rattle.least.specs.Least.{least}
 use Rattle.chart.specs.Chart.{actionOf, stateOf}
 use Rattle.take.specs.Take.{sampled, passes}
 use Rattle.take.specs.Record.{head, values, recordOf}
-use Rattle.moves.specs.declared.Next.{Next}
-use Rattle.moves.specs.declared.Next.the-variants.{Take, Block, Still}
+use Rattle.moves.specs.declared.Next.the-variants.{Block}
 use Rattle.moves.specs.Next.{fromBest, nextBy, nextOf, writtenBy, written}
 use Rattle.run.specs.Run.{after, bytes}
 use Rattle.parts.specs.Lawful.{Lawful}
-use Rattle.kept.specs.Formed.{InputFact}
 use Rattle.history.specs.History.{How, goesOn, takes, fires, Log, more, fireLog, takeLog, endLog, actLog, moveLog, runLog}
 use Rattle.history.specs.Origin.{Begun, waits, origin, recordsOf}
-use Rattle.least.specs.Leastness.{Least, least-means}
+use Rattle.least.specs.Leastness.{least-means}
 use Rattle.history.specs.Holds.{Holds}
 use Rattle.history.specs.Goes.{Goes, goes-now}
 use Rattle.history.specs.Taken.{flag}

@@ -6,25 +6,23 @@ use mathlib.Core.Logic.{_⊎_, ⊎-elim}
 use Prim.Native.Nat.{ℕ, _+_, _≤_, _<_}
 use native.Mathlib.Omega.{arith}
 use lib.Dec.{eqb, ltb}
-use lib.ListN.{length}
-use borrow.Author.Tests.{eqb-true, eqb-false, ne-eqb, ltb-true, ltb-false, le-ltb}
+use borrow.Author.Tests.{eqb-true, ltb-true, ltb-false, le-ltb}
 use Rattle.walk.specs.Pick.{test-cases}
 use Rattle.walk.specs.Choose.{choose, by-choose}
 use Rattle.walk.specs.First.{Sought, one, missing}
 use Rattle.number.specs.Word.{signed, ticksOf, signed-low}
-use Rattle.frames.specs.Frame.{flagAt, fieldAt}
+use Rattle.frames.specs.Frame.{flagAt}
 use Rattle.table.specs.declared.Shape.{Shape}
 use Rattle.store.specs.declared.running.Running.{Running}
-use Rattle.store.specs.Layout.{need, inputs, variables, inputFrame}
+use Rattle.store.specs.Layout.{inputs, variables}
 use Rattle.store.specs.Running.{awake}
-use Rattle.store.specs.Word.{nowOf, putOwner, runningOf, putDue, waiting, birthOf, lastUpdate, value}
-use Rattle.parts.specs.Part.{Part, due, input, sampled as «samples-part», just, also, nothing, everything, Leaves}
+use Rattle.store.specs.Word.{nowOf, putOwner, runningOf, putDue, waiting, birthOf, value}
+use Rattle.parts.specs.Part.{due, input, sampled as «samples-part», just, also, nothing, everything, Leaves}
 use Rattle.parts.specs.Writer.{leaves-owner}
 use Rattle.parts.specs.Own.{running-put}
 use Rattle.owned.specs.Owned.{any, nth}
 use Rattle.fire.specs.Partner.{inputOwner, partnerOutput}
 use Rattle.take.specs.Take.{sampled, passes, relay, ticksIn, dtOf, isStart, delay, wake, receive, taken}
-use Rattle.load.specs.WellFormed.{latest as «largest»}
 use Rattle.parts.specs.Lawful.{Lawful}
 use Rattle.take.specs.Taking.{passes-leaves, delay-leaves, wake-leaves, sampled-leaves}
 use Rattle.kept.specs.Formed.{Formed}
@@ -32,7 +30,7 @@ use Rattle.kept.specs.Blocks.{wake-formed, due-set, due-cleared}
 use Rattle.history.specs.History.{goesOn, takes, Log, more, fireLog, takeLog}
 use Rattle.history.specs.Origin.{Begun, waits, current, origin}
 use Rattle.least.specs.Leastness.{Least}
-use Rattle.history.specs.Holds.{Holds, quiet}
+use Rattle.history.specs.Holds.{quiet}
 use Rattle.history.specs.Goes.{Goes, take-goes, quiet-goes, calm-goes, fire-found-goes}
 
 -- no delay lasts longer than the largest value

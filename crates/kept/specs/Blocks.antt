@@ -1,29 +1,26 @@
 -- The moves of a running block, due times and now: each keeps a store well formed.
 use mathlib.Core.Path.{_≡_, refl, sym, ap, _∙_}
 use mathlib.Core.List.{List}
-use mathlib.Core.Bool.{Bool, true, false}
-use mathlib.Core.Logic.{_⊎_, inl, inr, ⊎-elim}
+use mathlib.Core.Logic.{_⊎_, ⊎-elim}
 use Prim.Native.Nat.{ℕ, _+_, _-_, _≤_, _<_}
 use native.Mathlib.Omega.{arith}
-use lib.Dec.{eqb, leb}
-use lib.ListN.{length}
-use borrow.Author.Tests.{eqb-true, eqb-false, leb-true, le-leb}
-use Rattle.walk.specs.Pick.{both-left, both-right, test-cases}
-use Rattle.walk.specs.First.{Sought, one, missing}
+use lib.Dec.{eqb}
+use borrow.Author.Tests.{eqb-true, eqb-false}
+use Rattle.walk.specs.Pick.{test-cases}
 use Rattle.frames.specs.Frame.{flagAt, fieldAt}
 use Rattle.table.specs.declared.Shape.{Shape}
 use Rattle.store.specs.declared.running.Running.{Running}
-use Rattle.store.specs.Layout.{need, inputs, inputFrame, transitions, transitionFrame, stateFrame, actionFrame, steps}
-use Rattle.store.specs.Running.{rest, awake, entered, stepped, charting}
+use Rattle.store.specs.Layout.{inputs, inputFrame, transitions, transitionFrame, stateFrame}
+use Rattle.store.specs.Running.{rest, awake, entered, charting}
 use Rattle.store.specs.Word.{nowOf, putNow, runningElement, currentEvent, putOwner, runningOf, putRunning, chartState, putChartState, dueFlag, dueTime, putDue}
-use Rattle.parts.specs.Part.{Part, time, block, chart, due, just, nothing, SameBlock, Leaves}
+use Rattle.parts.specs.Part.{time, block, chart, due, just, nothing, SameBlock, Leaves}
 use Rattle.parts.specs.Writer.{leaves-now, leaves-owner, leaves-running, leaves-chart, leaves-due}
 use Rattle.parts.specs.Own.{Due, now-put, element-put, event-put, running-put, element-running, event-running, chart-put, chart-other, due-put, due-other}
 use Rattle.take.specs.Take.{wake}
-use Rattle.chart.specs.Chart.{actionOf, actionNumber, change, goIdle, elementOf, stateOf}
-use Rattle.load.specs.WellFormed.{latest, stepOk}
+use Rattle.chart.specs.Chart.{actionNumber, change, goIdle, elementOf, stateOf}
+use Rattle.load.specs.WellFormed.{latest}
 use Rattle.parts.specs.Lawful.{StateOf, Lawful}
-use Rattle.kept.specs.Formed.{InputFact, DueFact, ChartFact, Parts, Rest, Mode, Owner, Busy, Block, Formed}
+use Rattle.kept.specs.Formed.{DueFact, ChartFact, Parts, Mode, Owner, Busy, Block, Formed}
 use Rattle.kept.specs.Keeping.{same-charts, same-dues, same-event, same-buffers, kept-parts, calm-parts, busy-block, rest-block, same-rest, same-blocked, entered-mode}
 
 module _ (T : List ℕ) (S : Shape) where

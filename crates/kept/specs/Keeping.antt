@@ -2,34 +2,30 @@
 use mathlib.Core.Path.{_≡_, refl, sym, ap, _∙_}
 use mathlib.Core.List.{List}
 use mathlib.Core.Bool.{Bool, true, false}
-use mathlib.Core.Logic.{_⊎_, inl, inr, ⊎-elim}
-use Prim.Native.Nat.{ℕ, _+_, _-_, _≤_, _<_}
+use mathlib.Core.Logic.{_⊎_, ⊎-elim}
+use Prim.Native.Nat.{ℕ, _-_, _≤_, _<_}
 use native.Mathlib.Omega.{arith}
-use lib.Dec.{eqb, ltb, leb}
-use lib.ListN.{length}
-use borrow.Author.Tests.{eqb-true, eqb-false, leb-true, le-leb}
-use Rattle.walk.specs.Pick.{both, both-left, both-right, test-cases}
+use lib.Dec.{eqb}
+use borrow.Author.Tests.{eqb-true, eqb-false, le-leb}
+use Rattle.walk.specs.Pick.{test-cases}
 use Rattle.walk.specs.First.{Sought, one, missing}
 use Rattle.frames.specs.Frame.{flagAt, fieldAt}
 use Rattle.table.specs.declared.Shape.{Shape}
 use Rattle.store.specs.declared.running.Running.{Running}
-use Rattle.store.specs.Layout.{need, inputs, variables, variableFrame, inputFrame, transitionFrame, actionFrame, linkFrame}
-use Rattle.store.specs.Running.{rest, awake, entered, stepped, charting}
-use Rattle.store.specs.Word.{nowOf, putNow, runningElement, currentEvent, putOwner, runningOf, putRunning, chartState, putChartState, dueFlag, dueTime, putDue, waiting, birthOf, lastUpdate, buffer}
+use Rattle.store.specs.Layout.{inputs, variables, variableFrame, actionFrame}
+use Rattle.store.specs.Running.{rest, entered, charting}
+use Rattle.store.specs.Word.{nowOf, runningElement, currentEvent, runningOf, chartState, buffer}
 use Rattle.parts.specs.Part.{Part, time, block, count, chart, due, input, sampled as «samples-part», buffered, just, also, SameBlock, Leaves}
-use Rattle.parts.specs.Writer.{leaves-now, leaves-owner, leaves-running, leaves-chart, leaves-due}
-use Rattle.parts.specs.Own.{now-put, element-put, event-put, running-put, chart-put, chart-other, due-put, due-other}
-use Rattle.fire.specs.Carry.{voiceOf}
 use Rattle.fire.specs.Fire.{fire}
 use Rattle.fire.specs.Untouched.{fire-untouched}
-use Rattle.take.specs.Take.{sampled, wake}
-use Rattle.chart.specs.Chart.{actionOf, orZero, actionNumber, change, goIdle, elementOf, stateOf}
-use Rattle.load.specs.WellFormed.{latest, stepOk}
+use Rattle.take.specs.Take.{sampled}
+use Rattle.chart.specs.Chart.{actionOf, orZero, actionNumber}
+use Rattle.load.specs.WellFormed.{stepOk}
 use Rattle.fire.specs.Joined.{connected}
-use Rattle.parts.specs.Lawful.{destination, StateOf, Lawful}
+use Rattle.parts.specs.Lawful.{Lawful}
 use Rattle.fire.specs.Firing.{Marked, fire-leaves, fire-marked}
 use Rattle.take.specs.Taking.{sampled-leaves, sampled-input, sampled-other}
-use Rattle.kept.specs.Formed.{InputFact, DueFact, ChartFact, Parts, Rest, Mode, Owner, Busy, Block, Formed}
+use Rattle.kept.specs.Formed.{InputFact, DueFact, ChartFact, Parts, Rest, Mode, Owner, Block, Formed}
 
 -- ---- a part that is not touched keeps its facts
 module _ (T : List ℕ) (S : Shape) (f : Part → Bool) (s s′ : List ℕ) (w : Leaves T S f s s′) (p : Parts T S s) where

@@ -3,31 +3,29 @@
 use mathlib.Core.Path.{_≡_, refl, sym, ap, _∙_}
 use mathlib.Core.List.{List}
 use mathlib.Core.Bool.{Bool, true, false}
-use mathlib.Core.Logic.{_⊎_, inl, inr, ⊎-elim}
-use Prim.Native.Nat.{ℕ, zero, suc, _+_, _-_, _≤_, _<_}
+use mathlib.Core.Logic.{_⊎_, ⊎-elim}
+use Prim.Native.Nat.{ℕ, suc, _+_, _-_, _≤_, _<_}
 use native.Mathlib.Nat.{eq-or-lt-of-le, le-of-suc-le-suc, not-suc-le-zero}
 use native.Mathlib.Omega.{arith}
 use lib.Dec.{eqb}
 use lib.ListN.{length, getD, set, length-set}
 use lib.Seq.{getD-set-same, getD-set-other}
 use borrow.Author.Tests.{eqb-true, eqb-false}
-use Rattle.walk.specs.Pick.{test-cases, clash}
+use Rattle.walk.specs.Pick.{clash}
 use Rattle.walk.specs.Choose.{choose, choose-true, choose-false, by-choose}
 use Rattle.walk.specs.Walk.{upTo, upTo-keeps, upTo-carries}
 use Rattle.frames.specs.Frame.{flagAt, fieldAt}
 use Rattle.table.specs.declared.Shape.{Shape}
-use Rattle.store.specs.declared.running.Running.{Running}
 use Rattle.store.specs.Layout.{need, inputs, variables, variableFrame, elementAt, inputAt, variableAt}
 use Rattle.store.specs.Running.{rest}
-use Rattle.store.specs.Word.{nowOf, runningElement, currentEvent, runningOf, overwritten, spares, spareWord, chartState, putChartState, dueFlag, dueTime, waiting, birthOf, lastUpdate, value, putValue, buffer, putBuffer}
+use Rattle.store.specs.Word.{nowOf, runningElement, currentEvent, runningOf, spares, spareWord, chartState, putChartState, dueFlag, dueTime, waiting, birthOf, lastUpdate, value, putValue, buffer, putBuffer}
 use Rattle.store.specs.Laws.{buffer-putBuffer, value-putBuffer}
 use Rattle.parts.specs.Part.{Part, chart, sampled, buffered, just, also, everything, Leaves, leaves-all, leaves-then}
 use Rattle.parts.specs.Writer.{leaves-chart, leaves-value, leaves-buffer}
 use Rattle.parts.specs.Own.{chart-put, chart-other, value-put, value-other, buffer-put, buffer-value}
-use Rattle.load.specs.WellFormed.{latest}
 use Rattle.load.specs.Load.{zeroes, initial, startValue, start, loaded}
 use Rattle.parts.specs.Lawful.{Lawful}
-use Rattle.kept.specs.Formed.{InputFact, DueFact, ChartFact, Parts, Rest, Block, Formed}
+use Rattle.kept.specs.Formed.{Formed}
 use Rattle.kept.specs.Keeping.{rest-block}
 
 -- ---- "Load zeroes the need"

@@ -1,16 +1,15 @@
 -- The test of a store and its facts say the same.
-use mathlib.Core.Path.{_≡_, refl, sym, ap, _∙_}
+use mathlib.Core.Path.{_≡_, refl}
 use mathlib.Core.List.{List}
 use mathlib.Core.Bool.{Bool, true, false}
 use mathlib.Core.Logic.{_⊎_, inl, inr, ⊎-elim}
-use Prim.Native.Nat.{ℕ, _-_, _≤_, _<_}
+use Prim.Native.Nat.{ℕ, _-_, _≤_}
 use native.Mathlib.Omega.{arith}
 use lib.Dec.{eqb, ltb, leb}
 use lib.ListN.{length}
 use borrow.Author.Tests.{eqb-true, eqb-false, eq-eqb, ne-eqb, leb-true, le-leb, ltb-true, lt-ltb}
 use Rattle.walk.specs.Pick.{pick, both, both-left, both-right, both-intro, both3, either-else, tri, test-cases}
 use Rattle.walk.specs.All.{allTo, all-at, all-intro}
-use Rattle.walk.specs.First.{Sought}
 use Rattle.frames.specs.Frame.{flagAt, fieldAt}
 use Rattle.table.specs.declared.Shape.{Shape}
 use Rattle.store.specs.declared.running.Running.{Running}
@@ -18,8 +17,7 @@ use Rattle.store.specs.Layout.{need, inputs, variables, states, inputFrame, var
 use Rattle.store.specs.Word.{nowOf, runningElement, currentEvent, runningOf, spares, spareWord, chartState, dueFlag, dueTime, waiting, birthOf, lastUpdate, buffer}
 use Rattle.chart.specs.Chart.{actionOf}
 use Rattle.load.specs.WellFormed.{latest, spareOk, restOk, ownerOk, stepOk, modeOk, runningOk, chartOk, dueOk, elementOk, inputOk, variableOk, partsOk, wellFormed}
-use Rattle.parts.specs.Lawful.{StateOf}
-use Rattle.kept.specs.Formed.{InputFact, DueFact, ChartFact, Parts, Rest, Mode, Owner, Busy, Block, Formed}
+use Rattle.kept.specs.Formed.{InputFact, DueFact, ChartFact, Rest, Mode, Owner, Block, Formed}
 
 -- ---- from the test
 module _ (T : List ℕ) (S : Shape) (s : List ℕ) where
@@ -69,10 +67,11 @@ module _ (T : List ℕ) (S : Shape) (s : List ℕ) where
             flagged = omega arith;
             rests = λ q. absurd (omega arith);
             due =
-                λ _.
-                (eqb-true (flagAt T el) 2 (p .1),
-                leb-true (nowOf s) (dueTime s el) (both-left (leb (nowOf s) (dueTime s el)) (leb (dueTime s el) 4294967294) (p .2)),
-                leb-true (dueTime s el) 4294967294 (both-right (leb (nowOf s) (dueTime s el)) (leb (dueTime s el) 4294967294) (p .2)));
+                λ _. (
+                  eqb-true (flagAt T el) 2 (p .1),
+                  leb-true (nowOf s) (dueTime s el) (both-left (leb (nowOf s) (dueTime s el)) (leb (dueTime s el) 4294967294) (p .2)),
+                  leb-true (dueTime s el) 4294967294 (both-right (leb (nowOf s) (dueTime s el)) (leb (dueTime s el) 4294967294) (p .2)),
+                );
           }
 
   chart-fact : (el : ℕ) → chartOk T S s el ≡ true → ChartFact T S s el
@@ -274,7 +273,11 @@ module _ (T : List ℕ) (S : Shape) (s : List ℕ) where
   unfolding wellFormed partsOk elementOk spareOk
   formed-tests w =
       let p = w .parts in
-      rw (le-leb (nowOf s) latest (p .in-time), all-intro (spareOk s) spares (λ j l. eq-eqb (spareWord s j) 0 (p .spare j l)), block-ok (w .block),
+      rw (
+        le-leb (nowOf s) latest (p .in-time),
+        all-intro (spareOk s) spares (λ j l. eq-eqb (spareWord s j) 0 (p .spare j l)),
+        block-ok (w .block),
         all-intro (elementOk T S s) (S .elements) (λ k l. both-intro (chartOk T S s k) (dueOk T s k) (chart-ok T S s k (p .charts k l)) (due-ok T S s k (p .dues k l))),
-        all-intro (inputOk S s) (inputs S) (λ i l. input-ok T S s i (p .events i l)))
+        all-intro (inputOk S s) (inputs S) (λ i l. input-ok T S s i (p .events i l)),
+      )
       (all-intro (variableOk T S s) (variables S) (λ v l. variable-ok T S s v (p .buffers v l)))

@@ -9,7 +9,7 @@ use lib.Seq.{sets}
 use Rattle.walk.specs.Choose.{choose}
 use Rattle.frames.specs.Frame.{flagAt}
 use Rattle.table.specs.declared.Shape.{Shape}
-use Rattle.table.specs.Judge.{accepted, judge, shapeOf}
+use Rattle.table.specs.Judge.{shapeOf}
 use Rattle.table.specs.Acceptance.{accepted-means}
 use Rattle.store.specs.Layout.{inputs, variables, links, variableFrame}
 use Rattle.store.specs.Word.{nowOf, runningOf, waiting, birthOf, value, buffer}

@@ -3,9 +3,9 @@ use mathlib.Core.Path.{_≡_, refl, sym, ap, _∙_}
 use mathlib.Core.List.{List, [], _∷_}
 use mathlib.Core.Bool.{Bool, true, false}
 use mathlib.Core.Logic.{_⊎_, inl, inr}
-use Prim.Native.Nat.{ℕ, zero, suc, _+_, _≤_, _<_}
+use Prim.Native.Nat.{ℕ, suc, _+_, _≤_, _<_}
 use native.Mathlib.Omega.{arith}
-use lib.Dec.{eqb, ltb}
+use lib.Dec.{eqb}
 use lib.ListN.{length, getD, set}
 use lib.Seq.{sets, length-sets, getD-set-other}
 use borrow.Author.Tests.{eqb-true}
@@ -16,22 +16,21 @@ use Rattle.table.specs.declared.Shape.{Shape}
 use Rattle.table.specs.Judge.{Verdict, accepted, refused, judge, shapeOf}
 use Rattle.store.specs.Layout.{need}
 use Rattle.store.specs.Kept.{Kept, kept-all}
-use Rattle.store.specs.Word.{nowOf, overwritten}
+use Rattle.store.specs.Word.{nowOf}
 use Rattle.load.specs.WellFormed.{wellFormed}
 use Rattle.load.specs.Load.{loaded}
 use Rattle.load.specs.Untouched.{loaded-kept}
 use Rattle.run.specs.Run.{bytes, another, roomFor, goesOn, made, stopAfter}
 use Rattle.xaluudhiga.specs.declared.calls.Answer.{Answer}
 use Rattle.xaluudhiga.specs.declared.calls.Answer.the-variants.{Refused, Done, Ran}
-use Rattle.xaluudhiga.specs.Calls.{movesOf, bytesOf, stopOf, answerBy, keptBy, loadRefusal, storeRefusal, orElse, timeRefusal, advanceRefusal, eventRefusal, arrivalRefusal, runMoves, LoadCall, AdvanceCall, ArrivalCall, RunCall, runAnswer}
-use Rattle.kept.specs.Formed.{Formed}
+use Rattle.xaluudhiga.specs.Calls.{movesOf, bytesOf, stopOf, answerBy, keptBy, loadRefusal, storeRefusal, timeRefusal, advanceRefusal, eventRefusal, arrivalRefusal, runMoves, LoadCall, AdvanceCall, ArrivalCall, RunCall, runAnswer}
 use Rattle.kept.specs.Means.{formed-tests}
 use Rattle.history.specs.History.{empty}
 use Rattle.history.specs.Origin.{asFound}
 use Rattle.history.specs.Holds.{Holds, found-holds}
 use Rattle.laws.specs.Sequence.{loads}
-use Rattle.laws.specs.Refusals.{Accepting, done-means, ran-means, load-none, store-formed, or-else-none}
-use Rattle.laws.specs.Steps.{Steady, steady-all, Step, advance-step, arrival-step, run-step}
+use Rattle.laws.specs.Refusals.{done-means, ran-means, store-formed, or-else-none}
+use Rattle.laws.specs.Steps.{Steady, steady-all, advance-step, arrival-step, run-step}
 use Rattle.laws.specs.Lawfully.{lawfully}
 
 -- ---- "A refusal returns its number ..; nothing is written."
@@ -63,9 +62,10 @@ module _ (T s s′ : List ℕ) (p f : ℕ) where
   pub run-refused : (budget : ℕ) (out out′ : List ℕ) → RunCall T s budget out (Refused p f) s′ out′ → (s′ ≡ s) × (out′ ≡ out)
   run-refused budget out out′ c =
       let m = runMoves T s budget (length out) in
-      let d = runAnswer T s budget (length out) m in
-      (c .store ∙ refused-keeps (judge T) (storeRefusal T (shapeOf T) s) p f d s _ (ran-other _ _ _) (c .answer),
-      c .output ∙ refused-keeps (judge T) (storeRefusal T (shapeOf T) s) p f d out _ (ran-other _ _ _) (c .answer))
+      let d = runAnswer T s budget (length out) m in (
+        c .store ∙ refused-keeps (judge T) (storeRefusal T (shapeOf T) s) p f d s _ (ran-other _ _ _) (c .answer),
+        c .output ∙ refused-keeps (judge T) (storeRefusal T (shapeOf T) s) p f d out _ (ran-other _ _ _) (c .answer),
+      )
 
 -- ---- "Words past the need are never touched"; now and the overwritten count never fall. Load begins them anew
 module _ (T s s′ : List ℕ) where

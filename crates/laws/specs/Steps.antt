@@ -1,8 +1,8 @@
 -- One public call, from a store in which the laws hold: they hold after it, and what every call keeps is kept.
-use mathlib.Core.Path.{_≡_, refl, sym, ap, _∙_}
+use mathlib.Core.Path.{_≡_, refl, ap, _∙_}
 use mathlib.Core.List.{List}
 use mathlib.Core.Bool.{Bool, true, false}
-use Prim.Native.Nat.{ℕ, _≤_, _<_}
+use Prim.Native.Nat.{ℕ, _≤_}
 use native.Mathlib.Omega.{arith}
 use lib.Dec.{eqb}
 use lib.ListN.{length, getD}
@@ -12,8 +12,8 @@ use Rattle.table.specs.declared.Shape.{Shape}
 use Rattle.table.specs.Judge.{Verdict, accepted, judge, shapeOf}
 use Rattle.table.specs.Acceptance.{accepted-means}
 use Rattle.store.specs.Layout.{need}
-use Rattle.store.specs.Word.{nowOf, putNow, overwritten}
-use Rattle.parts.specs.Part.{time, just, Leaves}
+use Rattle.store.specs.Word.{nowOf, overwritten}
+use Rattle.parts.specs.Part.{time, just}
 use Rattle.parts.specs.Writer.{leaves-now}
 use Rattle.parts.specs.Own.{now-put}
 use Rattle.run.specs.Run.{after}
@@ -24,7 +24,7 @@ use Rattle.parts.specs.Lawful.{Lawful, lawful}
 use Rattle.history.specs.History.{Log, advanceLog, arrivalLog, runLog}
 use Rattle.history.specs.Origin.{Begun}
 use Rattle.history.specs.Holds.{Holds}
-use Rattle.history.specs.Goes.{Onward, Goes}
+use Rattle.history.specs.Goes.{Onward}
 use Rattle.history.specs.Moves.{run-goes}
 use Rattle.history.specs.Calls.{advance-goes, advance-later, arrival-goes}
 use Rattle.laws.specs.Sequence.{unless, logAdvance, logArrival, logRun}

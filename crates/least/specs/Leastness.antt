@@ -1,16 +1,16 @@
 -- The event that is taken next waits, and no waiting event has an earlier last update.
-use mathlib.Core.Path.{_≡_, refl, sym, ap, _∙_}
+use mathlib.Core.Path.{_≡_, refl}
 use mathlib.Core.List.{List}
 use mathlib.Core.Bool.{Bool, true, false}
 use mathlib.Core.Logic.{_⊎_, ⊎-elim}
-use Prim.Native.Nat.{ℕ, zero, suc, _≤_, _<_}
+use Prim.Native.Nat.{ℕ, suc, _≤_, _<_}
 use native.Mathlib.Nat.{eq-or-lt-of-le, le-of-suc-le-suc, not-suc-le-zero}
 use native.Mathlib.Omega.{arith}
 use lib.Dec.{eqb, ltb}
 use borrow.Author.Tests.{eqb-true, eqb-false, ltb-true, ltb-false}
 use Rattle.walk.specs.Pick.{pick, test-cases}
-use Rattle.walk.specs.Choose.{choose, choose-true, choose-false}
-use Rattle.walk.specs.Walk.{upTo, upTo-carries}
+use Rattle.walk.specs.Choose.{choose-true, choose-false}
+use Rattle.walk.specs.Walk.{upTo-carries}
 use Rattle.table.specs.declared.Shape.{Shape}
 use Rattle.store.specs.Layout.{inputs}
 use Rattle.store.specs.Word.{waiting, lastUpdate}
@@ -53,41 +53,49 @@ module _ (T : List ℕ) (S : Shape) (s : List ℕ) where
   later : (n : ℕ) (x : Best) → waiting S s n ≡ 0 → Found n x → Found (suc n) x
   later n Nothing z w = λ c l. ⊎-elim (λ e. rw e z) (λ b. w c b) (eq-or-lt-of-le (le-of-suc-le-suc l))
   later n (At i k) z w =
-      let a = w .0 in
-      (record {
-        inside = let q = a .inside in omega arith;
-        waits = a .waits;
-        before = λ c l h. ⊎-elim (λ e. absurd (h (rw e z))) (λ b. a .before c b h) (eq-or-lt-of-le (le-of-suc-le-suc l));
-      }, w .1)
+      let a = w .0 in (
+        record {
+          inside = let q = a .inside in omega arith;
+          waits = a .waits;
+          before = λ c l h. ⊎-elim (λ e. absurd (h (rw e z))) (λ b. a .before c b h) (eq-or-lt-of-le (le-of-suc-le-suc l));
+        },
+        w .1,
+      )
 
   against : (n : ℕ) (x : Best) → (waiting S s n ≡ 0 → ⊥) → Found n x → Found (suc n) (better n (keyOf T S s n) x)
   unfolding better
-  against n Nothing h w =
-      (record {
-        inside = omega arith;
-        waits = h;
-        before = λ c l q. ⊎-elim (λ e. rw e (omega arith)) (λ b. absurd (q (w c b))) (eq-or-lt-of-le (le-of-suc-le-suc l));
-      }, refl)
+  against n Nothing h w = (
+    record {
+      inside = omega arith;
+      waits = h;
+      before = λ c l q. ⊎-elim (λ e. rw e (omega arith)) (λ b. absurd (q (w c b))) (eq-or-lt-of-le (le-of-suc-le-suc l));
+    },
+    refl,
+  )
   against n (At i k) h w = by (beats (keyOf T S s n) k) refl
     where
       by : (b : Bool) → beats (keyOf T S s n) k ≡ b → Found (suc n) (pick b (At n (keyOf T S s n)) (At i k))
       by true e =
-          let m = beats-last (keyOf T S s n) k e in
-          (record {
-            inside = omega arith;
-            waits = h;
-            before =
-                λ c l q.
-                ⊎-elim (λ z. rw z (omega arith)) (λ z. let y = w .0 .before c z q in let u = w .1 in omega arith) (eq-or-lt-of-le (le-of-suc-le-suc l));
-          }, refl)
+          let m = beats-last (keyOf T S s n) k e in (
+            record {
+              inside = omega arith;
+              waits = h;
+              before =
+                  λ c l q.
+                  ⊎-elim (λ z. rw z (omega arith)) (λ z. let y = w .0 .before c z q in let u = w .1 in omega arith) (eq-or-lt-of-le (le-of-suc-le-suc l));
+            },
+            refl,
+          )
       by false e =
           let m = beaten-last (keyOf T S s n) k e in
-          let a = w .0 in
-          (record {
-            inside = let q = a .inside in omega arith;
-            waits = a .waits;
-            before = λ c l q. ⊎-elim (λ z. rw z (let u = w .1 in omega arith)) (λ z. a .before c z q) (eq-or-lt-of-le (le-of-suc-le-suc l));
-          }, w .1)
+          let a = w .0 in (
+            record {
+              inside = let q = a .inside in omega arith;
+              waits = a .waits;
+              before = λ c l q. ⊎-elim (λ z. rw z (let u = w .1 in omega arith)) (λ z. a .before c z q) (eq-or-lt-of-le (le-of-suc-le-suc l));
+            },
+            w .1,
+          )
 
   looked : (n : ℕ) (x : Best) → Found n x → Found (suc n) (look T S s n x)
   unfolding look

@@ -1,9 +1,8 @@
 -- What the moves of a running block leave.
-use mathlib.Core.Path.{_≡_, refl, sym, ap, _∙_}
+use mathlib.Core.Path.{_≡_}
 use mathlib.Core.List.{List}
-use mathlib.Core.Bool.{Bool, true, false}
-use Prim.Native.Nat.{ℕ, _+_, _-_, _≤_, _<_}
-use native.Mathlib.Omega.{arith}
+use mathlib.Core.Bool.{Bool, true}
+use Prim.Native.Nat.{ℕ, _-_, _<_}
 use lib.Dec.{eqb}
 use lib.IntN.{pos}
 use Rattle.walk.specs.Choose.{by-choose}
@@ -15,7 +14,7 @@ use Rattle.table.specs.declared.Shape.{Shape}
 use Rattle.store.specs.declared.running.Running.{Running}
 use Rattle.store.specs.Layout.{steps, transitionFrame, stepFrame}
 use Rattle.store.specs.Running.{rest, entered}
-use Rattle.store.specs.Word.{putOwner, putRunning, putChartState, value, putValue}
+use Rattle.store.specs.Word.{putOwner, putRunning, putChartState, value}
 use Rattle.parts.specs.Part.{Part, block, count, chart as «charts», input, buffered, Leaves, leaves-all, leaves-then}
 use Rattle.parts.specs.Lawful.{Lawful}
 use Rattle.parts.specs.Writer.{leaves-owner, leaves-running, leaves-chart, leaves-value}

@@ -1,10 +1,10 @@
 -- What the laws know of an accepted table, by ids, beside the bounds of `Good`.
-use mathlib.Core.Path.{_≡_, refl, sym, ap, _∙_}
+use mathlib.Core.Path.{_≡_, sym, ap, _∙_}
 use mathlib.Core.List.{List}
-use Prim.Native.Nat.{ℕ, _+_, _-_, _≤_, _<_}
+use Prim.Native.Nat.{ℕ, _+_, _-_, _<_}
 use native.Mathlib.Omega.{arith}
 use Rattle.frames.specs.Kind.{element, variable, chartState}
-use Rattle.frames.specs.Frame.{flagAt, fieldAt, framesOf}
+use Rattle.frames.specs.Frame.{flagAt, fieldAt}
 use Rattle.frames.specs.Place.{countOf, startOf, place}
 use Rattle.table.specs.declared.Shape.{Shape}
 use Rattle.table.specs.Judge.{shapeOf}

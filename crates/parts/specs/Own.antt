@@ -1,9 +1,9 @@
 -- What each writer does to its own part: the word it wrote, and the like words of others.
-use mathlib.Core.Path.{_≡_, refl, _∙_}
+use mathlib.Core.Path.{_≡_, _∙_}
 use mathlib.Core.List.{List}
 use Prim.Native.Nat.{ℕ, _+_, _≤_, _<_}
 use native.Mathlib.Omega.{arith}
-use lib.ListN.{length, getD, set, length-set}
+use lib.ListN.{length, set, length-set}
 use lib.Seq.{getD-set-same, getD-set-other}
 use Rattle.table.specs.declared.Shape.{Shape}
 use Rattle.store.specs.declared.running.Running.{Running}
@@ -51,13 +51,15 @@ module _ (S : Shape) (s : List ℕ) (long : need S ≤ length s) where
       let lb = length-set a 4 (r .mode) in
       let lc = length-set b 5 (r .live) in
       let ld = length-set c 6 (r .action) in
-      rw (getD-set-other d 7 3 (r .step) 0 (λ q. omega arith) ∙ getD-set-other c 6 3 (r .action) 0 (λ q. omega arith) ∙ getD-set-other b 5 3 (r .live) 0 (λ q. omega arith)
-        ∙ getD-set-other a 4 3 (r .mode) 0 (λ q. omega arith) ∙ getD-set-same s 3 (r .birth) 0 (omega arith),
+      rw (
+        getD-set-other d 7 3 (r .step) 0 (λ q. omega arith) ∙ getD-set-other c 6 3 (r .action) 0 (λ q. omega arith) ∙ getD-set-other b 5 3 (r .live) 0 (λ q. omega arith)
+            ∙ getD-set-other a 4 3 (r .mode) 0 (λ q. omega arith) ∙ getD-set-same s 3 (r .birth) 0 (omega arith),
         getD-set-other d 7 4 (r .step) 0 (λ q. omega arith) ∙ getD-set-other c 6 4 (r .action) 0 (λ q. omega arith) ∙ getD-set-other b 5 4 (r .live) 0 (λ q. omega arith)
-        ∙ getD-set-same a 4 (r .mode) 0 (omega arith),
+            ∙ getD-set-same a 4 (r .mode) 0 (omega arith),
         getD-set-other d 7 5 (r .step) 0 (λ q. omega arith) ∙ getD-set-other c 6 5 (r .action) 0 (λ q. omega arith) ∙ getD-set-same b 5 (r .live) 0 (omega arith),
         getD-set-other d 7 6 (r .step) 0 (λ q. omega arith) ∙ getD-set-same c 6 (r .action) 0 (omega arith),
-        getD-set-same d 7 (r .step) 0 (omega arith))
+        getD-set-same d 7 (r .step) 0 (omega arith),
+      )
 
   -- ---- per element
   pub chart-put : (el q : ℕ) → el < S .elements → chartState (putChartState el q s) el ≡ q
@@ -123,8 +125,8 @@ module _ (S : Shape) (s : List ℕ) where
       let lo = elementAt el + 1 in
       let hi = elementAt el + 3 in
       let o =
-        outside-set lo hi s (set s (elementAt el + 1) flag) (elementAt el + 2) t (omega arith) (omega arith)
-        (outside-set lo hi s s (elementAt el + 1) flag (omega arith) (omega arith) (outside-none lo hi s)) in
+      outside-set lo hi s (set s (elementAt el + 1) flag) (elementAt el + 2) t (omega arith) (omega arith)
+      (outside-set lo hi s s (elementAt el + 1) flag (omega arith) (omega arith) (outside-none lo hi s)) in
       same-due s (putDue el flag t s) k (λ p a b. o .apart p (λ u v. n (omega arith)))
 
   pub input-other : (i k flag birth last : ℕ) → (k ≡ i → ⊥) → SameInput S s (putInput S i flag birth last s) k
@@ -135,9 +137,9 @@ module _ (S : Shape) (s : List ℕ) where
       let x = set s (inputAt S i) flag in
       let y = set x (inputAt S i + 1) birth in
       let o =
-        outside-set lo hi s y (inputAt S i + 2) last (omega arith) (omega arith)
-        (outside-set lo hi s x (inputAt S i + 1) birth (omega arith) (omega arith)
-        (outside-set lo hi s s (inputAt S i) flag (omega arith) (omega arith) (outside-none lo hi s))) in
+      outside-set lo hi s y (inputAt S i + 2) last (omega arith) (omega arith)
+      (outside-set lo hi s x (inputAt S i + 1) birth (omega arith) (omega arith)
+      (outside-set lo hi s s (inputAt S i) flag (omega arith) (omega arith) (outside-none lo hi s))) in
       same-input S s (putInput S i flag birth last s) k (λ p a b. o .apart p (λ u v. n (omega arith)))
 
   -- a running block that is put leaves its element and event

@@ -1,17 +1,17 @@
 -- What each writer leaves: every part but its own.
-use mathlib.Core.Path.{_≡_, refl, sym, ap, _∙_}
+use mathlib.Core.Path.{_≡_, sym, ap, _∙_}
 use mathlib.Core.List.{List}
 use mathlib.Core.Bool.{Bool, true, false}
 use mathlib.Core.Logic.{_⊎_, inl, inr, ⊎-elim}
 use Prim.Native.Nat.{ℕ, _+_, _≤_, _<_}
 use native.Mathlib.Omega.{arith}
-use lib.ListN.{length, getD, set}
+use lib.ListN.{set}
 use Rattle.walk.specs.Pick.{clash}
 use Rattle.frames.specs.Frame.{flagAt}
 use Rattle.table.specs.declared.Shape.{Shape}
 use Rattle.store.specs.declared.running.Running.{Running}
 use Rattle.store.specs.Layout.{need, inputs, variables, variableFrame, elementAt, inputAt, variableAt}
-use Rattle.store.specs.Word.{nowOf, putNow, putOwner, putRunning, overwritten, putOverwritten, spares, spareWord, chartState, putChartState, putDue, putInput, value, putValue, buffer, putBuffer}
+use Rattle.store.specs.Word.{nowOf, putNow, putOwner, putRunning, overwritten, putOverwritten, spareWord, chartState, putChartState, putDue, putInput, value, putValue, buffer, putBuffer}
 use Rattle.parts.specs.Part.{Part, time, block, count, chart, due, input, sampled, buffered, Leaves, Outside, outside-none, outside-set, same-block, same-due, same-input}
 
 module _ (T : List ℕ) (S : Shape) (f : Part → Bool) (s : List ℕ) where

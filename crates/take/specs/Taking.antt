@@ -2,7 +2,7 @@
 use mathlib.Core.Path.{_≡_, refl, sym, ap, _∙_}
 use mathlib.Core.List.{List}
 use mathlib.Core.Bool.{Bool, true, false}
-use Prim.Native.Nat.{ℕ, zero, suc, _+_, _≤_, _<_}
+use Prim.Native.Nat.{ℕ, _+_, _≤_, _<_}
 use native.Mathlib.Omega.{arith}
 use lib.Dec.{eqb}
 use lib.ListN.{length}
@@ -10,8 +10,8 @@ use borrow.Author.Tests.{eqb-true, eqb-false}
 use Rattle.walk.specs.Pick.{both, either, either-false, either-true, both-left, clash}
 use Rattle.walk.specs.Choose.{choose, by-choose}
 use Rattle.walk.specs.All.{anyTo}
-use Rattle.walk.specs.First.{Sought, one, missing, First, first-means}
-use Rattle.walk.specs.Walk.{upTo, upTo-keeps, upTo-carries}
+use Rattle.walk.specs.First.{Sought, one, missing, first-means}
+use Rattle.walk.specs.Walk.{upTo-keeps, upTo-carries}
 use Rattle.frames.specs.Frame.{flagAt, fieldAt}
 use Rattle.table.specs.declared.Shape.{Shape}
 use Rattle.store.specs.Layout.{need, inputs, variables, associations, associationFrame, variableFrame}
@@ -22,10 +22,9 @@ use Rattle.parts.specs.Part.{Part, block, count, due, input, sampled as «sampl
 use Rattle.parts.specs.Lawful.{Lawful}
 use Rattle.parts.specs.Writer.{leaves-owner, leaves-running, leaves-due, leaves-input, leaves-value}
 use Rattle.parts.specs.Own.{Input, input-put, input-other, value-put, value-other, buffer-value}
-use Rattle.owned.specs.Owned.{any, belongs, rank, isNth}
+use Rattle.owned.specs.Owned.{belongs, rank, isNth}
 use Rattle.fire.specs.Partner.{partnerOutput, partnerVariable, variableOwner}
 use Rattle.fire.specs.Carry.{voice, speaks}
-use Rattle.fire.specs.Fire.{fire}
 use Rattle.fire.specs.Joined.{connected}
 use Rattle.fire.specs.Firing.{Marked, fire-leaves, fire-marked}
 use Rattle.take.specs.Take.{sample, samples, sampled, passTo, pass, passes, fireFound, relay, dtOf, isStart, delay, wake}
@@ -145,9 +144,9 @@ module _ (T : List ℕ) (S : Shape) (k : Lawful T S) where
     unfolding anyTo choose
     samples-value long =
         let w =
-          upTo-carries (λ (n : ℕ) (x : List ℕ). Sampled (anyTo (joins T S i v) n) x) (sample T S i) (associations S) s
-          (λ j l x m. turn x (anyTo (joins T S i v) j) j l m)
-          (record { long = long; buffers = λ u. refl; is = refl }) in
+        upTo-carries (λ (n : ℕ) (x : List ℕ). Sampled (anyTo (joins T S i v) n) x) (sample T S i) (associations S) s
+        (λ j l x m. turn x (anyTo (joins T S i v) j) j l m)
+        (record { long = long; buffers = λ u. refl; is = refl }) in
         w .is
 
   -- it stops waiting, and the other event inputs stay
