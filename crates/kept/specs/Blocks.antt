@@ -21,7 +21,7 @@ use Rattle.chart.specs.Chart.{actionNumber, change, goIdle, elementOf, stateOf}
 use Rattle.load.specs.WellFormed.{latest}
 use Rattle.parts.specs.Lawful.{StateOf, Lawful}
 use Rattle.kept.specs.Formed.{DueFact, ChartFact, Parts, Mode, Owner, Busy, Block, Formed}
-use Rattle.kept.specs.Keeping.{same-charts, same-dues, same-event, same-buffers, kept-parts, calm-parts, busy-block, rest-block, same-rest, same-blocked, entered-mode}
+use Rattle.kept.specs.Keeping.{due-same, same-charts, same-dues, same-event, same-buffers, kept-parts, calm-parts, busy-block, rest-block, same-rest, same-blocked, entered-mode}
 
 module _ (T : List ℕ) (S : Shape) where
   -- nothing that has facts is touched: values that are no inputs
@@ -147,14 +147,7 @@ module _ (T : List ℕ) (S : Shape) where
         dues : (c : ℕ) → c < S .elements → nowOf (putDue el flag t s) ≡ nowOf s → DueFact T (putDue el flag t s) c
         dues c b n =
             ⊎-elim (λ e. rw (eqb-true c el e) (h n (due-put S s (g .parts .long) el flag t l)))
-            (λ e.
-            let u = due-other S s el c flag t (eqb-false c el e) in
-            let d = g .parts .dues c b in
-            record {
-              flagged = rw (u .flag) (d .flagged);
-              rests = λ z. u .at ∙ d .rests (sym (u .flag) ∙ z);
-              due = λ z. rw (u .at, n) (d .due (sym (u .flag) ∙ z));
-            }) (test-cases (eqb c el))
+            (λ e. due-same T s (putDue el flag t s) c (due-other S s el c flag t (eqb-false c el e)) n (g .parts .dues c b)) (test-cases (eqb c el))
 
   pub due-set : (el t : ℕ) (s : List ℕ) → el < S .elements → flagAt T el ≡ 2 → nowOf s ≤ t → t ≤ 4294967294 → Formed T S s → Formed T S (putDue el 1 t s)
   due-set el t s l fl a b g =

@@ -15,7 +15,7 @@ use Rattle.store.specs.declared.running.Running.{Running}
 use Rattle.store.specs.Layout.{inputs, variables, variableFrame, actionFrame}
 use Rattle.store.specs.Running.{rest, entered, charting}
 use Rattle.store.specs.Word.{nowOf, runningElement, currentEvent, runningOf, chartState, buffer}
-use Rattle.parts.specs.Part.{Part, time, block, count, chart, due, input, sampled as «samples-part», buffered, just, also, SameBlock, Leaves}
+use Rattle.parts.specs.Part.{Part, time, block, count, chart, due, input, sampled as «samples-part», buffered, just, also, SameBlock, SameDue, SameInput, Leaves}
 use Rattle.fire.specs.Fire.{fire}
 use Rattle.fire.specs.Untouched.{fire-untouched}
 use Rattle.take.specs.Take.{sampled}
@@ -27,30 +27,29 @@ use Rattle.fire.specs.Firing.{Marked, fire-leaves, fire-marked}
 use Rattle.take.specs.Taking.{sampled-leaves, sampled-input, sampled-other}
 use Rattle.kept.specs.Formed.{InputFact, DueFact, ChartFact, Parts, Rest, Mode, Owner, Block, Formed}
 
--- ---- a part that is not touched keeps its facts
+-- ---- words that stay keep their facts
+pub input-same : (S : Shape) (s s′ : List ℕ) (i : ℕ) → SameInput S s s′ i → nowOf s′ ≡ nowOf s → InputFact S s i → InputFact S s′ i
+input-same S s s′ i u n d =
+    record {
+      flagged = rw (u .waits) (d .flagged);
+      rests = λ e. let r = d .rests (sym (u .waits) ∙ e) in (u .born ∙ r .0, u .last ∙ r .1);
+      waits = λ e. rw (u .born, u .last, n) (d .waits (sym (u .waits) ∙ e));
+    }
+
+pub due-same : (T s s′ : List ℕ) (el : ℕ) → SameDue s s′ el → nowOf s′ ≡ nowOf s → DueFact T s el → DueFact T s′ el
+due-same T s s′ el u n d =
+    record { flagged = rw (u .flag) (d .flagged); rests = λ e. u .at ∙ d .rests (sym (u .flag) ∙ e); due = λ e. rw (u .at, n) (d .due (sym (u .flag) ∙ e)) }
+
+-- and so does a part that is not touched
 module _ (T : List ℕ) (S : Shape) (f : Part → Bool) (s s′ : List ℕ) (w : Leaves T S f s s′) (p : Parts T S s) where
   pub same-charts : f chart ≡ false → (el : ℕ) → el < S .elements → ChartFact T S s′ el
   same-charts h el l = let c = p .charts el l in record { basic = λ e. rw (w .charts h el l) (c .basic e); other = λ n. w .charts h el l ∙ c .other n }
 
   pub same-dues : f time ≡ false → f due ≡ false → (el : ℕ) → el < S .elements → DueFact T s′ el
-  same-dues t h el l =
-      let d = p .dues el l in
-      let u = w .dues h el l in
-      record {
-        flagged = rw (u .flag) (d .flagged);
-        rests = λ e. u .at ∙ d .rests (sym (u .flag) ∙ e);
-        due = λ e. rw (u .at, w .now t) (d .due (sym (u .flag) ∙ e));
-      }
+  same-dues t h el l = due-same T s s′ el (w .dues h el l) (w .now t) (p .dues el l)
 
   pub same-event : f time ≡ false → f input ≡ false → (i : ℕ) → i < inputs S → InputFact S s′ i
-  same-event t h i l =
-      let d = p .events i l in
-      let u = w .waits h i l in
-      record {
-        flagged = rw (u .waits) (d .flagged);
-        rests = λ e. let r = d .rests (sym (u .waits) ∙ e) in (u .born ∙ r .0, u .last ∙ r .1);
-        waits = λ e. rw (u .born, u .last, w .now t) (d .waits (sym (u .waits) ∙ e));
-      }
+  same-event t h i l = input-same S s s′ i (w .waits h i l) (w .now t) (p .events i l)
 
   pub same-buffers : f buffered ≡ false → (v : ℕ) → v < variables S → (flagAt T (variableFrame S v) ≡ 0 → ⊥) → buffer S s′ v ≡ 0
   same-buffers h v l n = w .buffers h v l ∙ p .buffers v l n
@@ -183,14 +182,7 @@ module _ (T : List ℕ) (S : Shape) (k : Lawful T S) where
             rests = λ z. absurd (let y = sym (u .waits) ∙ z in omega arith);
             waits = λ _. rw (u .born, u .updated, n) (l, omega arith);
           })
-          (λ e.
-          let u = m .miss e in
-          let d = g .parts .events i h in
-          record {
-            flagged = rw (u .waits) (d .flagged);
-            rests = λ z. let r = d .rests (sym (u .waits) ∙ z) in (u .born ∙ r .0, u .last ∙ r .1);
-            waits = λ z. rw (u .born, u .last, n) (d .waits (sym (u .waits) ∙ z));
-          }) (test-cases (connected T S o i))
+          (λ e. input-same S s (fire T S o birth t s) i (m .miss e) n (g .parts .events i h)) (test-cases (connected T S o i))
 
   -- ---- taking
   pub sampled-formed : (i : ℕ) (s : List ℕ) → i < inputs S → Formed T S s → Formed T S (sampled T S i s)
@@ -216,11 +208,4 @@ module _ (T : List ℕ) (S : Shape) (k : Lawful T S) where
             rests = λ _. (u .born, u .updated);
             waits = λ z. absurd (let y = sym (u .waits) ∙ z in omega arith);
           }))
-          (λ e.
-          let u = sampled-other T S k i c s h (eqb-false c i e) in
-          let d = g .parts .events c h in
-          record {
-            flagged = rw (u .waits) (d .flagged);
-            rests = λ z. let r = d .rests (sym (u .waits) ∙ z) in (u .born ∙ r .0, u .last ∙ r .1);
-            waits = λ z. rw (u .born, u .last, n) (d .waits (sym (u .waits) ∙ z));
-          }) (test-cases (eqb c i))
+          (λ e. input-same S s (sampled T S i s) c (sampled-other T S k i c s h (eqb-false c i e)) n (g .parts .events c h)) (test-cases (eqb c i))
