@@ -136,7 +136,7 @@ fn outcome_on(t: &[u8], row: Row) -> Five
     requires { ⌜ Fits row ⌝ }
 {
     let mut store = [7u32; 40];
-    let mut out = [0u8; 4096];
+    let mut out = io::buffer();
     let words = row.2;
     let room = row.3;
     let answer = make_all(

@@ -1,21 +1,25 @@
 -- What is lent of store and output are their first words and bytes, as many as the row says, which fits.
 use borrow.Author.Needs.{needs}
 use mathlib.Core.Path.{sym}
+use native.Mathlib.Omega.{arith}
 use lib.Seq.{length-take-le}
 use Rattle.cases_main.proofs.ask.outcome_on.Statement.{statement}
 use Rattle.cases_main.proofs.ask.outcome_on.Tie as tie
+
+buffer-requires : tie.Need-buffer-requires
+buffer-requires c κs = search needs
 
 array-borrow-prefix-store : tie.Need-array-borrow-prefix-store
 array-borrow-prefix-store c = search needs
 
 slice-aggregate-make-all : tie.Need-slice-aggregate-make-all
-slice-aggregate-make-all c = sym (length-take-le (c .before .before .args .row .2) _ (c .before .before .pre .words))
+slice-aggregate-make-all c = sym (length-take-le (c .before .before .before .args .row .2) _ (c .before .before .before .pre .words))
 
 array-borrow-prefix-out : tie.Need-array-borrow-prefix-out
 array-borrow-prefix-out c = search needs
 
 slice-aggregate-make-all-2 : tie.Need-slice-aggregate-make-all-2
-slice-aggregate-make-all-2 c = sym (length-take-le (c .before .before .before .args .row .3) _ (c .before .before .before .pre .room))
+slice-aggregate-make-all-2 c = sym (length-take-le (c .before .before .before .before .args .row .3) (c .before .before .buffer .result) (omega (arith, c .before .before .before .before .pre .room, c .before .before .buffer .ensures)))
 
 make-all-requires : tie.Need-make-all-requires
 make-all-requires c κs = search needs
@@ -42,6 +46,7 @@ pub outcome-on-spec : {M : Type 1} → statement M
 outcome-on-spec =
     tie.close
     (tie.spec
+    buffer-requires
     array-borrow-prefix-store
     slice-aggregate-make-all
     array-borrow-prefix-out
