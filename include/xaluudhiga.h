@@ -120,8 +120,9 @@ enum {
 };
 
 /* The need: so many words must a store have, by the number of frames of three kinds. A constant where the numbers are. */
-#define XAL_NEED(elements, event_inputs, variables) \
-    (XAL_STORE_HEAD + XAL_ELEMENT_WORDS * (elements) + XAL_EVENT_INPUT_WORDS * (event_inputs) + XAL_VARIABLE_WORDS * (variables))
+#define XAL_NEED(elements, event_inputs, variables)                                                            \
+    ((size_t)XAL_STORE_HEAD + (size_t)XAL_ELEMENT_WORDS * (size_t)(elements) +                                 \
+     (size_t)XAL_EVENT_INPUT_WORDS * (size_t)(event_inputs) + (size_t)XAL_VARIABLE_WORDS * (size_t)(variables))
 
 /* The need of the greatest table: a store of so many words suits every table. */
 #define XAL_MAX_NEED XAL_NEED(XAL_MAX_ELEMENTS, XAL_MAX_EVENT_INPUTS, XAL_MAX_VARIABLES)
