@@ -78,8 +78,13 @@ fn compare_round(
     found
 }
 
+/// What differs: an answer, a store, an output buffer, or what no call may
+/// write to, of a refused call the store and the output buffer too.
 fn difference(request: &Request, expected: &Reply, given: &Given) -> Option<String> {
-    if given.reply == *expected && given.lent_is_kept {
+    let refuses = REFUSES.iter().any(|&(call, _)| call == request.call.number());
+    let refused = refuses && given.reply.answer >> 16 != 0;
+    let wrote = given.reply.store != request.store || given.reply.output != lent(&request.call);
+    if given.reply == *expected && given.lent_is_kept && !(refused && wrote) {
         return None;
     }
     Some(format!(
@@ -89,6 +94,14 @@ fn difference(request: &Request, expected: &Reply, given: &Given) -> Option<Stri
         given.reply,
         if given.lent_is_kept { "kept" } else { "changed" }
     ))
+}
+
+/// The output buffer that a call is lent.
+fn lent(call: &Call) -> &[u8] {
+    match call {
+        Call::Run { output, .. } => output,
+        _ => &[],
+    }
 }
 
 /// A request in words: the table in lines, the store, the call.

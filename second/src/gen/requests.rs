@@ -1,6 +1,7 @@
 //! Calls on arbitrary tables and stores: the session's own calls, one after
 //! the other on a store that grows out of them, and beside each a call on a
-//! copy of that store, whole, spoiled or cut, with the table or a damaged one.
+//! copy of that store, whole, spoiled or cut, or on any words, with the table or
+//! a damaged one.
 
 use super::rng::Rng;
 use super::session;
@@ -79,17 +80,22 @@ impl Draw {
 
     // ------------------------------------------------------------ probes
 
-    /// Any call on the store as it is, spoiled, or of another length, with the
-    /// table as it is or damaged.
+    /// Any call on the store as it is, spoiled or cut, or on any words, with
+    /// the table as it is or damaged.
     fn probe(&mut self, store: &[u32]) -> Request {
         let mut words = store.to_vec();
-        if self.rng.chance(60) {
-            for _ in 0..self.rng.pick(&[1, 1, 1, 2, 3]) {
-                self.spoil(&mut words);
+        match self.rng.below(20) {
+            0..=6 => {}
+            7..=16 => {
+                for _ in 0..self.rng.pick(&[1, 1, 1, 2, 3]) {
+                    self.spoil(&mut words);
+                }
             }
-        }
-        if self.rng.chance(15) {
-            words.truncate(self.rng.between(self.need - self.need / 4, self.need));
+            17..=18 => words.truncate(self.rng.between(self.need - self.need / 4, self.need)),
+            _ => {
+                words = self.any_store();
+                words.truncate(self.rng.below(2 * self.need));
+            }
         }
         let mut table = self.table.clone();
         if self.rng.chance(15) {
