@@ -12,6 +12,7 @@ pub mod arithmetic;
 pub mod calls;
 pub mod coverage;
 pub mod gen;
+pub mod host;
 pub mod lines;
 pub mod machine;
 pub mod model;

@@ -190,10 +190,20 @@ impl<W: Watch> Program<'_, W> {
 }
 
 /// One call, read from one line or, for an arrival, several.
-enum Call {
+pub enum Call {
     Advance { to: u32 },
     Arrival { event: u32, birth: u32, values: Vec<i32> },
     Run { budget: u32 },
+}
+
+/// The calls of a session, up to the first line that is malformed.
+pub fn calls_of_lines(lines: &[&[u8]]) -> Vec<Call> {
+    let mut lines = lines.iter();
+    let mut calls = Vec::new();
+    while let Some(call) = lines.next().and_then(|line| call_of(line, &mut lines)) {
+        calls.push(call);
+    }
+    calls
 }
 
 /// The call that begins with this line and takes its values from the lines

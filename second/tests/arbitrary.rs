@@ -1,135 +1,83 @@
 //! The calls on any table, store, time and value list: they answer, a refused
 //! call leaves everything as it came, and an accepted one keeps the store well
-//! formed and the words past the need.
+//! formed, the words past the need and the rest of the output buffer.
 
-use second::gen::{rng::Rng, session};
-use second::lines::{lines_of, part, table_of_lines};
-use second::{advance, arrival, check, load, run, store, Answer};
+use second::gen::requests::requests;
+use second::host::{reply, Call, Reply, Request};
+use second::{check, store};
+use std::collections::BTreeSet;
 
-const WORDS_PAST: usize = 4;
-const PAST: u32 = 0x5A5A_5A5A;
-
-/// A table of a generated session, sound or damaged; none if it is malformed.
-fn any_table(number: u64) -> Option<Vec<u8>> {
-    let session = session(77, number);
-    let lines = lines_of(&session);
-    table_of_lines(part(&lines).0).filter(|table| table.len() < 12 * 600)
-}
-
-/// Makes any call; the output buffer keeps its bytes past those written.
-fn any_call(rng: &mut Rng, table: &[u8], store: &mut [u32]) -> Answer {
-    let time = |rng: &mut Rng, now: u32| match rng.below(4) {
-        0 => rng.bits() as u32,
-        1 => now,
-        _ => now.wrapping_add(rng.below(40) as u32).wrapping_sub(10),
-    };
-    let now = store.first().copied().unwrap_or(0);
-    match rng.below(4) {
-        0 => {
-            let to = time(rng, now);
-            advance(table, store, to)
-        }
-        1 => {
-            let values: Vec<i32> = (0..rng.below(4)).map(|_| rng.value(false)).collect();
-            let (event, birth) = (rng.below(9) as u32, time(rng, now));
-            arrival(table, store, event, birth, &values)
-        }
-        _ => {
-            let mut out = vec![0xEE; rng.below(200)];
-            let answer = run(table, store, rng.below(300) as u32, &mut out);
-            assert!(answer.bytes <= out.len());
-            assert!(out[answer.bytes..].iter().all(|&byte| byte == 0xEE));
-            answer
-        }
+/// The output buffer that a call is lent.
+fn lent(call: &Call) -> &[u8] {
+    match call {
+        Call::Run { output, .. } => output,
+        _ => &[],
     }
 }
 
-/// Makes a call and judges what it left; true if it was accepted.
-fn judged_call(rng: &mut Rng, table: &[u8], store: &mut [u32]) -> bool {
-    let before = store.to_vec();
-    let answer = any_call(rng, table, store);
-    if answer.refusal != 0 {
-        assert_eq!(before, store, "a refused call wrote");
-        assert_eq!((answer.moves, answer.stop, answer.bytes), (0, 0, 0));
-        return false;
+/// The refusal number of a call; none of those that only look at the table.
+fn refusal(call: &Call, reply: &Reply) -> Option<u64> {
+    let looks = matches!(call, Call::Need | Call::FramesOf { .. } | Call::StepsOf { .. });
+    (!looks).then_some(reply.answer >> 16)
+}
+
+fn judge_refused(request: &Request, reply: &Reply) {
+    assert_eq!(request.store, reply.store, "a refused call wrote to the store");
+    assert_eq!(lent(&request.call), reply.output, "a refused call wrote to the output");
+    assert_eq!((reply.moves, reply.stop, reply.bytes), (0, 0, 0));
+}
+
+fn judge_accepted(request: &Request, reply: &Reply) {
+    let written = reply.bytes as usize;
+    assert_eq!(lent(&request.call)[written..], reply.output[written..]);
+    if request.call == Call::Check {
+        assert_eq!(request.store, reply.store);
+        return;
     }
-    let model = check(table).expect("an accepted call has a table");
-    assert!(store::read(&model, store).is_some(), "not well formed any more");
+    let model = check(&request.table).expect("an accepted call has a table");
+    assert!(store::read(&model, &reply.store).is_some(), "not well formed any more");
     let need = store::need(&model);
-    assert_eq!(before[need..], store[need..]);
-    true
-}
-
-/// A word near those that mean something.
-fn any_word(rng: &mut Rng) -> u32 {
-    let any = rng.bits() as u32;
-    rng.pick(&[0, 1, 2, 3, 7, any % 16, 0x7FFF_FFFF, 0x8000_0000, u32::MAX - 1, u32::MAX, any])
+    assert_eq!(request.store[need..], reply.store[need..]);
 }
 
 #[test]
-fn calls_keep_a_store_well_formed() {
-    let mut accepted = 0;
-    for number in 0..400 {
-        let Some(table) = any_table(number) else { continue };
-        let mut rng = Rng::new(5, number);
-        let need = check(&table).map_or(30, |model| store::need(&model));
-        let mut words = vec![PAST; need + WORDS_PAST];
-        load(&table, &mut words);
-        for _ in 0..30 {
-            accepted += u32::from(judged_call(&mut rng, &table, &mut words));
-        }
-        assert_eq!(words[need..], [PAST; WORDS_PAST]);
-    }
-    assert!(accepted > 2000, "only {accepted} calls were accepted");
-}
-
-#[test]
-fn calls_answer_on_stores_with_any_words() {
+fn calls_keep_what_they_must() {
+    let mut numbers = BTreeSet::new();
     let (mut accepted, mut refused) = (0, 0);
-    for number in 0..400 {
-        let Some(table) = any_table(number) else { continue };
-        let mut rng = Rng::new(6, number);
-        let need = check(&table).map_or(30, |model| store::need(&model));
-        for _ in 0..20 {
-            let mut words = vec![0; need];
-            load(&table, &mut words);
-            for _ in 0..rng.below(6) {
-                judged_call(&mut rng, &table, &mut words);
+    for round in 0..400 {
+        requests(77, round, &mut |request| {
+            let reply = reply(&request);
+            match refusal(&request.call, &reply) {
+                None => assert_eq!(request.store, reply.store),
+                Some(0) => {
+                    accepted += 1;
+                    judge_accepted(&request, &reply);
+                }
+                Some(number) => {
+                    refused += 1;
+                    numbers.insert(number);
+                    judge_refused(&request, &reply);
+                }
             }
-            for _ in 0..rng.between(1, 2) {
-                words[rng.below(need)] = any_word(&mut rng);
-            }
-            match judged_call(&mut rng, &table, &mut words) {
-                true => accepted += 1,
-                false => refused += 1,
-            }
-        }
+            reply.store
+        });
     }
-    assert!(accepted > 300 && refused > 1000, "{accepted} accepted, {refused} refused");
+    assert!(accepted > 5000 && refused > 2000, "{accepted} accepted, {refused} refused");
+    assert_eq!(numbers, (1..=11).collect());
 }
 
 #[test]
-fn calls_answer_on_stores_of_any_length_and_tables_of_any_bytes() {
-    let mut rng = Rng::new(7, 0);
-    let mut numbers = std::collections::BTreeSet::new();
-    for number in 0..2000 {
-        let mut table = any_table(number % 50).unwrap_or_default();
-        if rng.chance(30) {
-            let kept = rng.below(table.len() + 1);
-            table.truncate(kept);
+fn a_seed_gives_the_same_requests_each_time() {
+    let drawn = || {
+        let mut all = Vec::new();
+        for round in 0..20 {
+            requests(3, round, &mut |request| {
+                let store = reply(&request).store;
+                all.push(request);
+                store
+            });
         }
-        for _ in 0..rng.below(4) {
-            let place = rng.below(table.len().max(1));
-            if let Some(byte) = table.get_mut(place) {
-                *byte = rng.bits() as u8;
-            }
-        }
-        let mut words: Vec<u32> = (0..rng.below(120)).map(|_| any_word(&mut rng)).collect();
-        let before = words.clone();
-        let answer = any_call(&mut rng, &table, &mut words);
-        numbers.insert(answer.refusal);
-        assert!(answer.refusal == 0 || words == before);
-    }
-    // Random words are hardly ever a well formed store.
-    assert!((1..=6).all(|number| numbers.contains(&number)), "{numbers:?}");
+        all
+    };
+    assert_eq!(drawn(), drawn());
 }

@@ -1,62 +1,31 @@
--- Document 01's examples on calls, computed: the worked session and its bounds, and the delay.
-use mathlib.Core.Path.{_≡_, refl}
+-- Document 01's "Examples to prove": one table of definition cases. The one claim over it is in Claim.
 use mathlib.Core.List.{List, [], _∷_, _++_}
-use mathlib.Core.Bool.{Bool, true, false}
-use Prim.Native.Nat.{ℕ}
+use Prim.Native.Nat.{ℕ, _+_, _*_}
+use lib.IntN.{ℤ, pos, negℤ}
 use lib.ListN.{replicate}
-use Rattle.walk.specs.Choose.{choose}
-use Rattle.walk.specs.All.{allTo, anyTo}
-use Rattle.walk.specs.Count.{countIf}
-use Rattle.walk.specs.Held.{heldTo}
-use Rattle.walk.specs.Walk.{upTo}
-use Rattle.walk.specs.First.{firstFrom}
-use Rattle.number.specs.Bytes.{halfAt, wordAt, halfBytes, wordBytes}
-use Rattle.number.specs.Clip.{clip, quotient, least, greatest}
+use Rattle.number.specs.Word.{word}
+use Rattle.number.specs.Bytes.{wordAt}
+use Rattle.number.specs.Clip.{lowest}
 use Rattle.number.specs.Operation.{operation}
-use Rattle.number.specs.Guard.{guarded}
-use Rattle.frames.specs.Frame.{kindAt, flagAt, fieldAt}
-use Rattle.frames.specs.Place.{seekTo, orderAt, ownedBy, sortIs}
-use Rattle.frames.specs.Form.{usedOf, clearAt, stepsOk, bodyOk, formOk}
-use Rattle.references.specs.Reference.{initialState, ofElement, joins, associates, ofBasic, maybeOwned, usesOwn, transits, resultOf, stepsOf, acts, stepsTo, connectsEvents, variableWith, connectsData, refersAs, refersOk}
-use Rattle.network.specs.Fresh.{alike, shares, fresh, sameEvent, eightAtMost}
-use Rattle.network.specs.Shapes.{classAt, partAt, parts, sourceShape, sinkShape, interfaceShape, delayShape, shapeAs, shapeOk}
-use Rattle.network.specs.Network.{rulesOk}
-use Rattle.table.specs.Judge.{Verdict, accepted, refused, lengthOk, faultAt, scanTo, judge}
-use Rattle.table_cases.specs.Cases.{worked-right}
-use Rattle.table_cases.specs.Worked.{frame, worked}
-use Rattle.table_cases.specs.Worked.{bytes as «bytesOf»}
-use Rattle.store.specs.Layout.{inputs, outputs, variables, associations, states, transitions, actions, steps, connections, links, need, elementAt, inputAt, variableAt}
-use Rattle.store.specs.Word.{nowOf, putNow, runningElement, currentEvent, putOwner, runningOf, putRunning, overwritten, putOverwritten, spareWord, chartState, putChartState, dueFlag, dueTime, putDue, waiting, birthOf, lastUpdate, putInput, value, putValue, buffer, putBuffer}
-use Rattle.owned.specs.Owned.{belongs, isNth}
-use Rattle.fire.specs.Partner.{partnerOutput, partnerInput, partnerVariable}
-use Rattle.fire.specs.Carry.{voiceOf, speaks, carriedBy, carries}
-use Rattle.fire.specs.Fire.{counted, mark, connect, copyIf, fire}
-use Rattle.least.specs.Least.{beats, better, look, least as «leastOf»}
-use Rattle.take.specs.Take.{sample, passTo, pass, fireFound, relay, ticksIn, dtOf, isStart, delay, wake, receive, sampled, taken}
-use Rattle.take.specs.Record.{head, valueOf, values, recordOf, recordSize}
-use Rattle.chart.specs.Chart.{heard, guardHolds, enabled, transitionOf, actionOf, actionNumber, change, goIdle, chart, chartMove}
-use Rattle.moves.specs.Act.{oneStep, stepMove, fireAny, endMove, act, actMove}
-use Rattle.moves.specs.Next.{fromBest, nextBy, nextOf, blockMove, moveBy, move, writtenBy, written, takenSize, sizeBy}
-use Rattle.load.specs.WellFormed.{spareOk, restOk, ownerOk, stepOk, modeOk, runningOk, chartOk, dueOk, elementOk, inputOk, variableOk, partsOk, wellFormed}
-use Rattle.load.specs.Load.{initial, startValue, start, loaded}
-use Rattle.run.specs.Run.{after, bytes, another, roomFor, goesOn, made, stopAfter}
-use Rattle.run.specs.Calls.{dueAt, expired, expire, advanced, wrongTime, dueBefore, beyondDue, give, arrived, ofSource, associated}
-use Rattle.xaluudhiga.specs.Calls.{loadRefusal, storeRefusal, timeRefusal, advanceRefusal, eventRefusal, arrivalRefusal}
+use Rattle.table.specs.Judge.{Verdict}
+use Rattle.table_cases.specs.Worked.{frame, worked, bytes}
+use Rattle.store.specs.Word.{dueFlag, dueTime}
 use Rattle.cases.specs.Script.{Call, load, advance, arrival, run, stored, answered, printed}
 
--- ---- the tables
-unfoldable pub session : List ℕ
-session = «bytesOf» worked
+-- ---- the tables of the examples
+pub data Table : Type 0 where
+  -- "A source, a block that doubles, a sink"
+  doubler : Table
+  -- "last frame given twice"
+  repeated : Table
+  -- a source that starts and stops a delay with DT 50, and a sink that hears it
+  delayed : Table
 
--- its last frame given twice
-unfoldable pub twice : List ℕ
-twice = session ++ frame 11 0 2 3 0 0 0
-
--- a source that starts and stops a delay with DT 50, and a sink that hears it
-unfoldable pub delays : List ℕ
-delays =
-    «bytesOf»
-    (frame 1 3 0 0 0 0 0 ∷
+unfoldable pub framesIn : Table → List (List ℕ)
+framesIn doubler = worked
+framesIn repeated = worked ++ (frame 11 0 2 3 0 0 0 ∷ [])
+framesIn delayed =
+    frame 1 3 0 0 0 0 0 ∷
     frame 1 2 1 0 0 0 0 ∷
     frame 1 4 2 0 0 0 0 ∷
     frame 2 0 1 0 0 0 0 ∷
@@ -68,9 +37,45 @@ delays =
     frame 4 0 1 0 50 0 0 ∷
     frame 10 0 0 0 0 0 0 ∷
     frame 10 0 1 1 0 0 0 ∷
-    frame 10 0 2 2 0 0 0 ∷ [])
+    frame 10 0 2 2 0 0 0 ∷ []
 
--- the worked session up to its run
+abbrev pub tableOf : Table → List ℕ
+tableOf t = bytes (framesIn t)
+
+-- ---- what is asked. Of calls: on which table, with how many words of store (each 7 at first), with how much room for output, after which calls
+pub data Asked : Type 0 where
+  -- what this call answers: refusal, frame, moves, stop number, bytes
+  answer : Table → ℕ → ℕ → List Call → Call → Asked
+  -- the record that a run with this budget writes, as words
+  recorded : Table → ℕ → ℕ → List Call → ℕ → Asked
+  -- due flag and due time of element 1
+  due : Table → ℕ → ℕ → List Call → Asked
+  -- the result of an operation on two values, as a word
+  result : ℕ → ℤ → ℤ → Asked
+
+pub record Case : Type 0 where
+  pub asked : Asked
+  pub want : List ℕ
+
+abbrev gives : Asked → List ℕ → Case
+gives a w = record { asked = a; want = w }
+
+-- a record of 20 bytes: element and event input; birth; last update; now; one value
+abbrev pub wordsOf : List ℕ → List ℕ
+wordsOf b = wordAt b 0 ∷ wordAt b 4 ∷ wordAt b 8 ∷ wordAt b 12 ∷ wordAt b 16 ∷ []
+
+-- what the definitions tell, by the verdict on each table
+abbrev pub tells : (Table → Verdict) → Asked → List ℕ
+tells v (answer t words room cs c) = answered (v t) (tableOf t) room (replicate words 7) cs c
+tells v (recorded t words room cs b) = wordsOf (printed (tableOf t) room (stored (v t) (tableOf t) room (replicate words 7) cs) b)
+tells v (due t words room cs) = let s = stored (v t) (tableOf t) room (replicate words 7) cs in dueFlag s 1 ∷ dueTime s 1 ∷ []
+tells v (result op b c) = word (operation op b c (pos 0)) ∷ []
+
+-- ---- the calls of the examples
+-- the worked session before its arrival, and before its run
+abbrev before : List Call
+before = load ∷ advance 10 ∷ []
+
 abbrev ready : List Call
 ready = load ∷ advance 10 ∷ arrival 0 7 (21 ∷ []) ∷ []
 
@@ -81,71 +86,48 @@ started = load ∷ advance 100 ∷ arrival 0 100 [] ∷ run 100 ∷ []
 abbrev again : List Call
 again = load ∷ advance 100 ∷ arrival 0 100 [] ∷ run 100 ∷ advance 120 ∷ arrival 0 120 [] ∷ run 100 ∷ []
 
--- every definition on the way, named once
-everything : Unit {0}
-unfolding session twice delays worked stored answered printed choose allTo anyTo countIf heldTo upTo firstFrom halfAt wordAt halfBytes wordBytes clip quotient least greatest operation guarded kindAt flagAt fieldAt seekTo orderAt ownedBy sortIs usedOf clearAt stepsOk bodyOk formOk initialState ofElement joins associates ofBasic maybeOwned usesOwn transits resultOf stepsOf acts stepsTo connectsEvents variableWith connectsData refersAs refersOk alike shares fresh sameEvent eightAtMost classAt partAt parts sourceShape sinkShape interfaceShape delayShape shapeAs shapeOk rulesOk lengthOk faultAt scanTo judge inputs outputs variables associations states transitions actions steps connections links need elementAt inputAt variableAt nowOf putNow runningElement currentEvent putOwner runningOf putRunning overwritten putOverwritten spareWord chartState putChartState dueFlag dueTime putDue waiting birthOf lastUpdate putInput value putValue buffer putBuffer belongs isNth partnerOutput partnerInput partnerVariable voiceOf speaks carriedBy carries counted mark connect copyIf fire beats better look «leastOf» sample passTo pass fireFound relay ticksIn dtOf isStart delay wake receive sampled taken head valueOf values recordOf recordSize heard guardHolds enabled transitionOf actionOf actionNumber change goIdle chart chartMove oneStep stepMove fireAny endMove act actMove fromBest nextBy nextOf blockMove moveBy move writtenBy written takenSize sizeBy spareOk restOk ownerOk stepOk modeOk runningOk chartOk dueOk elementOk inputOk variableOk partsOk wellFormed initial startValue start loaded after bytes another roomFor goesOn made stopAfter dueAt expired expire advanced wrongTime dueBefore beyondDue give arrived ofSource associated loadRefusal storeRefusal timeRefusal advanceRefusal eventRefusal arrivalRefusal
-everything = tt
+abbrev accepts : List ℕ
+accepts = 0 ∷ 0 ∷ 0 ∷ 0 ∷ 0 ∷ []
 
--- ---- the cases, by the verdicts on the three tables: what the last call answers (refusal, frame, moves, stop number, bytes), or a word, or a record
-abbrev pub cases : Verdict → Verdict → Verdict → List (List ℕ)
-cases v w x =
-    -- the session's run makes 9 moves and stops with 1, having written 20 bytes
-    answered v session 4096 (replicate 40 7) ready (run 100) ∷
-    -- and this is its record
-    printed session 4096 (stored v session 4096 (replicate 40 7) ready) 100 ∷
-    -- load at 38 words, at 39
-    answered v session 4096 (replicate 38 0) [] load ∷
-    answered v session 4096 (replicate 39 0) [] load ∷
-    -- budget 8, budget 9
-    answered v session 4096 (replicate 39 0) ready (run 8) ∷
-    answered v session 4096 (replicate 39 0) ready (run 9) ∷
-    -- an output of 19 bytes
-    answered v session 19 (replicate 39 0) ready (run 100) ∷
-    -- birth 11 at now 10, birth 10
-    answered v session 4096 (replicate 39 0) (load ∷ advance 10 ∷ []) (arrival 0 11 (21 ∷ [])) ∷
-    answered v session 4096 (replicate 39 0) (load ∷ advance 10 ∷ []) (arrival 0 10 (21 ∷ [])) ∷
-    -- the last frame twice
-    answered w twice 4096 (replicate 39 0) [] load ∷
-    -- DT 50 taken at 100 is due at 150, and 151 is refused
-    (dueFlag (stored x delays 64 (replicate 40 0) started) 1 ∷ dueTime (stored x delays 64 (replicate 40 0) started) 1 ∷ []) ∷
-    answered x delays 64 (replicate 40 0) started (advance 150) ∷
-    answered x delays 64 (replicate 40 0) started (advance 151) ∷
-    -- a second START at 120 moves due to 170
-    (dueFlag (stored x delays 64 (replicate 40 0) again) 1 ∷ dueTime (stored x delays 64 (replicate 40 0) again) 1 ∷ []) ∷ []
+abbrev refuses : ℕ → ℕ → List ℕ
+refuses q f = q ∷ f ∷ 0 ∷ 0 ∷ 0 ∷ []
 
-abbrev wanted : List (List ℕ)
-wanted =
-    (0 ∷ 0 ∷ 9 ∷ 1 ∷ 20 ∷ [])
-    ∷ (0 ∷ 2 ∷ 0 ∷ 1 ∷ 0 ∷ 0 ∷ 0 ∷ 7 ∷ 0 ∷ 0 ∷ 0 ∷ 10 ∷ 0 ∷ 0 ∷ 0 ∷ 10 ∷ 0 ∷ 0 ∷ 0 ∷ 42 ∷ [])
-    ∷ (5 ∷ 0 ∷ 0 ∷ 0 ∷ 0 ∷ [])
-    ∷ (0 ∷ 0 ∷ 0 ∷ 0 ∷ 0 ∷ [])
-    ∷ (0 ∷ 0 ∷ 8 ∷ 2 ∷ 0 ∷ [])
-    ∷ (0 ∷ 0 ∷ 9 ∷ 1 ∷ 20 ∷ [])
-    ∷ (0 ∷ 0 ∷ 8 ∷ 3 ∷ 0 ∷ [])
-    ∷ (10 ∷ 0 ∷ 0 ∷ 0 ∷ 0 ∷ [])
-    ∷ (0 ∷ 0 ∷ 0 ∷ 0 ∷ 0 ∷ [])
-    ∷ (4 ∷ 25 ∷ 0 ∷ 0 ∷ 0 ∷ [])
-    ∷ (1 ∷ 150 ∷ [])
-    ∷ (0 ∷ 0 ∷ 0 ∷ 0 ∷ 0 ∷ [])
-    ∷ (8 ∷ 0 ∷ 0 ∷ 0 ∷ 0 ∷ [])
-    ∷ (1 ∷ 170 ∷ []) ∷ []
+abbrev runs : ℕ → ℕ → ℕ → List ℕ
+runs moves stop bytes = 0 ∷ 0 ∷ moves ∷ stop ∷ bytes ∷ []
 
-session-accepted : judge session ≡ accepted
-unfolding session
-session-accepted = worked-right
+abbrev minus : ℕ → ℤ
+minus n = negℤ (pos n)
 
-twice-refused : judge twice ≡ refused 4 25
-unfolding everything
-twice-refused = refl
-
-delays-accepted : judge delays ≡ accepted
-unfolding everything
-delays-accepted = refl
-
-computed : cases accepted (refused 4 25) accepted ≡ wanted
-unfolding everything
-computed = refl
-
--- the one claim
-pub all-right : cases (judge session) (judge twice) (judge delays) ≡ wanted
-all-right = rw (session-accepted, twice-refused, delays-accepted) computed
+-- ---- the table of cases
+abbrev pub cases : List Case
+cases =
+    -- the session above
+    gives (answer doubler 40 4096 [] load) accepts ∷
+    gives (answer doubler 40 4096 (load ∷ []) (advance 10)) accepts ∷
+    gives (answer doubler 40 4096 before (arrival 0 7 (21 ∷ []))) accepts ∷
+    gives (answer doubler 40 4096 ready (run 100)) (runs 9 1 20) ∷
+    gives (recorded doubler 40 4096 ready 100) ((2 * 65536 + 1) ∷ 7 ∷ 10 ∷ 10 ∷ 42 ∷ []) ∷
+    -- "its load at 38 words refused 5, at 39 accepted"
+    gives (answer doubler 38 4096 [] load) (refuses 5 0) ∷
+    gives (answer doubler 39 4096 [] load) accepts ∷
+    -- "budget 8 stops with 2, 9 with 1"
+    gives (answer doubler 39 4096 ready (run 8)) (runs 8 2 0) ∷
+    gives (answer doubler 39 4096 ready (run 9)) (runs 9 1 20) ∷
+    -- "an output of 19 bytes stops with 3 after 8 moves"
+    gives (answer doubler 39 19 ready (run 100)) (runs 8 3 0) ∷
+    -- "birth 11 at now 10 refused 10, birth 10 accepted"
+    gives (answer doubler 39 4096 before (arrival 0 11 (21 ∷ []))) (refuses 10 0) ∷
+    gives (answer doubler 39 4096 before (arrival 0 10 (21 ∷ []))) accepts ∷
+    -- "last frame given twice refused 4 at frame 25"
+    gives (answer repeated 39 4096 [] load) (refuses 4 25) ∷
+    -- "DT 50 taken at 100 is due at 150, and 151 is refused 8"
+    gives (due delayed 40 4096 started) (1 ∷ 150 ∷ []) ∷
+    gives (answer delayed 40 4096 started (advance 150)) accepts ∷
+    gives (answer delayed 40 4096 started (advance 151)) (refuses 8 0) ∷
+    -- "a second START at 120 moves due to 170"
+    gives (due delayed 40 4096 again) (1 ∷ 170 ∷ []) ∷
+    -- "the two results 2147483647 above": negating the lowest number, and dividing it by -1
+    gives (result 3 lowest (pos 0)) (2147483647 ∷ []) ∷
+    gives (result 5 lowest (minus 1)) (2147483647 ∷ []) ∷
+    -- "-7 divided by 2 is -3"
+    gives (result 5 (minus 7) (pos 2)) (word (minus 3) ∷ []) ∷ []

@@ -28,7 +28,7 @@ fn stretch(first: usize, count: usize) -> Span
 }
 
 // Where the frames of kind k stand.
-fn kind_span(t: &[u8], k: usize) -> Span
+pub fn kind_span(t: &[u8], k: usize) -> Span
     ensures { λ r. ⌜ Within (now (t .entry)) (kindSpan (now (t .entry)) k) r ⌝ }
 {
     let judged = crate::check(t);
@@ -46,7 +46,7 @@ fn kind_span(t: &[u8], k: usize) -> Span
 }
 
 // Where the steps of an action stand.
-fn step_span(t: &[u8], id: usize) -> Span
+pub fn step_span(t: &[u8], id: usize) -> Span
     ensures { λ r. ⌜ Within (now (t .entry)) (stepSpan (now (t .entry)) id) r ⌝ }
 {
     let judged = crate::check(t);

@@ -31,6 +31,7 @@ use Rattle.run.specs.Calls.{advanced, wrongTime, beyondDue, arrived, ofSource, 
 use Rattle.xaluudhiga.specs.declared.calls.Answer.{Answer}
 use Rattle.xaluudhiga.specs.declared.calls.Answer.the-variants.{Refused, Done, Ran as «RanTo»}
 use Rattle.xaluudhiga.specs.Calls.{answerBy, keptBy, refusedOf, runAnswer, loadRefusal, storeRefusal, orElse, timeRefusal, advanceRefusal, eventRefusal, arrivalRefusal, LoadCall, AdvanceCall, ArrivalCall, runMoves, RunCall}
+use Rattle.xaluudhiga.specs.Exports.{needOr0}
 
 -- ---- by the verdict and the call's own refusal
 module _ (v : Verdict) (q : ℕ) where
@@ -66,6 +67,14 @@ module _ (T : List ℕ) {j : Judged} (told : j ≡ judged T) where
 
     pub ready : Good T S
     ready = rw shape (good T (accepted-means T verdict))
+
+-- ---- the need
+module _ (T : List ℕ) {j : Judged} (told : j ≡ judged T) where
+  pub need-faulty : {q f : ℕ} → j ≡ «Faulty» q f → 0 ≡ needOr0 T
+  need-faulty e = rw (faulty T told e)
+
+  pub need-sound : {S : Shape} {n : ℕ} → j ≡ Sound S → n ≡ need S → n ≡ needOr0 T
+  need-sound e u = rw (verdict T told e) (u ∙ ap need (shape T told e))
 
 -- ---- no refusal of the store: it is long enough and well formed, so now is in range
 pub formed-now : (T : List ℕ) (S : Shape) (s : List ℕ) → wellFormed T S s ≡ true → nowOf s ≤ 2147483647

@@ -1,3 +1,4 @@
 pub mod Calls
-pub mod Packed
+pub mod Exports
 pub mod Bounds
+pub mod Agreed

@@ -2,7 +2,7 @@
 ghost use mathlib.Core.Path.{_≡_};
 ghost use Prim.Native.Nat.{_<_, _≤_};
 ghost use Rattle.store.specs.Good.{Good};
-ghost use Rattle.xaluudhiga.specs.Calls.{storeRefusal, timeRefusal, eventRefusal, refusedOf, LoadCall, AdvanceCall, ArrivalCall, RunCall};
+ghost use Rattle.xaluudhiga.specs.Calls.{numberOf, frameOf, movesOf, bytesOf, stopOf, storeRefusal, timeRefusal, eventRefusal, refusedOf, LoadCall, AdvanceCall, ArrivalCall, RunCall};
 use load::formed::well_formed;
 use load::load::load as load_store;
 use run::calls::advance_to;
@@ -28,8 +28,61 @@ pub enum Answer {
     Ran(u32, usize, u32),
 }
 
-// The answer for a table that was not accepted.
-fn refused(judged: Judged) -> Answer
+// What an answer tells: refusal number, frame, moves, bytes and stop number, each 0 where it has none.
+impl Answer {
+    pub fn number(self) -> usize
+        ensures { λ r. ⌜ r ≡ numberOf self ⌝ }
+    {
+        match self {
+            Answer::Refused(number, _) => number,
+            Answer::Done => 0,
+            Answer::Ran(_, _, _) => 0,
+        }
+    }
+
+    pub fn frame(self) -> usize
+        ensures { λ r. ⌜ r ≡ frameOf self ⌝ }
+    {
+        match self {
+            Answer::Refused(_, frame) => frame,
+            Answer::Done => 0,
+            Answer::Ran(_, _, _) => 0,
+        }
+    }
+
+    pub fn moves(self) -> u32
+        ensures { λ r. ⌜ r ≡ movesOf self ⌝ }
+    {
+        match self {
+            Answer::Refused(_, _) => 0,
+            Answer::Done => 0,
+            Answer::Ran(moves, _, _) => moves,
+        }
+    }
+
+    pub fn bytes(self) -> usize
+        ensures { λ r. ⌜ r ≡ bytesOf self ⌝ }
+    {
+        match self {
+            Answer::Refused(_, _) => 0,
+            Answer::Done => 0,
+            Answer::Ran(_, bytes, _) => bytes,
+        }
+    }
+
+    pub fn stop(self) -> u32
+        ensures { λ r. ⌜ r ≡ stopOf self ⌝ }
+    {
+        match self {
+            Answer::Refused(_, _) => 0,
+            Answer::Done => 0,
+            Answer::Ran(_, _, stop) => stop,
+        }
+    }
+}
+
+// The answer for a table that was not accepted; there is nothing to tell of one that was.
+pub fn refused(judged: Judged) -> Answer
     ensures { λ r. ⌜ r ≡ refusedOf judged ⌝ }
 {
     match judged {

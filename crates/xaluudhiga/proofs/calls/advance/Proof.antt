@@ -1,5 +1,4 @@
 -- `advance` meets its contract: the refusals in their order, or the advanced store.
--- `advance` meets its contract: the refusals in their order, or the advanced store.
 use borrow.Author.Needs.{needs}
 use Rattle.xaluudhiga.proofs.calls.advance.Statement.{statement}
 use Rattle.xaluudhiga.proofs.Turns.{ready, advance-faulty, advance-unready, advance-refused, advance-done}

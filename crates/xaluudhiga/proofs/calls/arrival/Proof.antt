@@ -1,5 +1,4 @@
 -- `arrival` meets its contract: the refusals in their order, or the store after the arrival.
--- `arrival` meets its contract: the refusals in their order, or the store after the arrival.
 use borrow.Author.Needs.{needs}
 use Rattle.xaluudhiga.proofs.calls.arrival.Statement.{statement}
 use Rattle.xaluudhiga.proofs.Turns.{ready, event-known, arrival-faulty, arrival-unready, arrival-refused, arrival-done}

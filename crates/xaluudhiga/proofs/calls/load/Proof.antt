@@ -1,5 +1,4 @@
 -- `load` meets its contract: the table's refusal, 5, or the loaded store.
--- `load` meets its contract: the table's refusal, 5, or the loaded store.
 use borrow.Author.Needs.{needs}
 use Rattle.xaluudhiga.proofs.calls.load.Statement.{statement}
 use Rattle.store.specs.Good.{small}

@@ -1,5 +1,4 @@
 -- `run` meets its contract: the refusals in their order, or what the run left.
--- `run` meets its contract: the refusals in their order, or what the run left.
 use borrow.Author.Needs.{needs}
 use Rattle.xaluudhiga.proofs.calls.run.Statement.{statement}
 use Rattle.xaluudhiga.proofs.Turns.{ready, store-now, run-faulty, run-unready, run-done}

@@ -1,0 +1,106 @@
+-- The definition cases as the program has them: a row of numbers each. What the program runs are these rows, and each fits its buffers.
+use mathlib.Core.Path.{_≡_, refl}
+use mathlib.Core.Bool.{Bool, true}
+use mathlib.Core.List.{List, [], _∷_, _++_, map}
+use Prim.Native.Nat.{ℕ, _+_, _-_, _<_, _≤_}
+use lib.Dec.{leb}
+use lib.ListN.{getD, length, take, drop}
+use borrow.Author.Tests.{leb-true}
+use Rattle.walk.specs.Pick.{both, both3}
+use Rattle.walk.specs.All.{allTo, all-at}
+use Rattle.number.specs.Word.{word}
+use Rattle.number.specs.Bytes.{halfAt}
+use Rattle.cases.specs.Script.{Call as «CallOf», load, advance, arrival, run}
+use Rattle.cases.specs.Cases.{Table, doubler, repeated, delayed, framesIn, Asked, answer, recorded, due, result, Case, cases}
+use Rattle.cases_main.specs.declared.data.Frame.{Frame}
+use Rattle.cases_main.specs.declared.data.Call.{Call}
+use Rattle.cases_main.specs.declared.data.Row.{Row}
+
+-- ---- frames: kind, flag, a to e
+abbrev asFrame : List ℕ → Frame
+asFrame x = (getD x 0 0, getD x 1 0, halfAt x 2, halfAt x 4, halfAt x 6, halfAt x 8, halfAt x 10)
+
+abbrev pub noFrame : Frame
+noFrame = (0, 0, 0, 0, 0, 0, 0)
+
+unfoldable pub frames : List Frame
+frames = map asFrame (framesIn repeated ++ framesIn delayed)
+
+-- ---- calls
+abbrev asCall : «CallOf» → Call
+asCall load = (1, 0, 0)
+asCall (advance t) = (2, t, 0)
+asCall (arrival o birth []) = (3, birth, 0)
+asCall (arrival o birth (v ∷ vs)) = (4, birth, v)
+asCall (run b) = (5, b, 0)
+
+abbrev pub noCall : Call
+noCall = (0, 0, 0)
+
+-- the calls that come before a case's own, on the worked table and on the delay's: those of the longest case of each
+abbrev pub calls : List Call
+calls =
+    map asCall
+    (load ∷
+    advance 10 ∷
+    arrival 0 7 (21 ∷ []) ∷
+    load ∷ advance 100 ∷ arrival 0 100 [] ∷ run 100 ∷ advance 120 ∷ arrival 0 120 [] ∷ run 100 ∷ [])
+
+-- ---- rows
+abbrev asTable : Table → ℕ
+asTable doubler = 0
+asTable repeated = 1
+asTable delayed = 2
+
+-- where its calls begin
+abbrev first : Table → ℕ
+first doubler = 0
+first repeated = 0
+first delayed = 3
+
+-- of a call and what must come out
+abbrev row : ℕ → ℕ → ℕ → ℕ → ℕ → ℕ → Call → List ℕ → Row
+row asked table words room from to c w =
+    (asked, table, words, room, from, to, c .0, c .1, c .2, getD w 0 0, getD w 1 0, getD w 2 0, getD w 3 0, getD w 4 0)
+
+abbrev asRow : Asked → List ℕ → Row
+asRow (answer t words room cs c) w = row 0 (asTable t) words room (first t) (first t + length cs) (asCall c) w
+asRow (recorded t words room cs b) w = row 1 (asTable t) words room (first t) (first t + length cs) (asCall (run b)) w
+asRow (due t words room cs) w = row 2 (asTable t) words room (first t) (first t + length cs) noCall w
+asRow (result op b c) w = row 3 0 0 0 0 0 (op, word b, word c) w
+
+abbrev pub rows : List Row
+rows = map (λ (k : Case). asRow (k .asked) (k .want)) cases
+
+abbrev pub noRow : Row
+noRow = (0, 0, 0, 0, 0, 0, 0, 0, 0, 0, 0, 0, 0, 0)
+
+-- the calls of a case are those of its row
+abbrev before : Asked → List «CallOf»
+before (answer t words room cs c) = cs
+before (recorded t words room cs b) = cs
+before (due t words room cs) = cs
+before (result op b c) = []
+
+pub calls-right : map (λ (r : Row). take (r .5 - r .4) (drop (r .4) calls)) rows ≡ map (λ (k : Case). map asCall (before (k .asked))) cases
+calls-right = refl
+
+-- ---- a row that fits the program's buffers
+pub record Fits (r : Row) : Type 0 where
+  pub words : r .2 ≤ 40
+  pub room : r .3 ≤ 4096
+  pub last : r .5 ≤ 10
+
+fits : ℕ → Bool
+fits i = let r = getD rows i noRow in both (leb (r .2) 40) (both (leb (r .3) 4096) (leb (r .5) 10))
+
+all-fit : allTo fits 20 ≡ true
+unfolding fits allTo
+all-fit = refl
+
+pub row-fits : (i : ℕ) → i < 20 → Fits (getD rows i noRow)
+unfolding fits
+row-fits i h =
+    let r = getD rows i noRow in
+    let w = both3 (leb (r .2) 40) (leb (r .3) 4096) (leb (r .5) 10) (all-at fits 20 i h all-fit) in
+    record { words = leb-true _ _ (w .0); room = leb-true _ _ (w .1); last = leb-true _ _ (w .2) }

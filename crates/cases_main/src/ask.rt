@@ -1,0 +1,172 @@
+// What comes out of a case, through the public calls.
+ghost use Prim.Native.Nat.{_≤_};
+ghost use mathlib.Core.Path.{_≡_};
+ghost use lib.ListN.{length};
+ghost use Rattle.cases_main.specs.Rows.{Fits};
+use crate::data::Call;
+use crate::data::Five;
+use crate::data::Frame;
+use crate::data::Row;
+use crate::data::call_at;
+use crate::data::frame_at;
+use number::bytes::word_at;
+use number::operation::operate_words;
+use store::word::due_flag;
+use store::word::due_time;
+use xaluudhiga::calls::Answer;
+use xaluudhiga::calls::advance;
+use xaluudhiga::calls::arrival;
+use xaluudhiga::calls::load;
+use xaluudhiga::calls::run;
+
+// ---- The tables
+
+// Byte j of a frame.
+fn byte_of(f: Frame, j: usize) -> u8 {
+    match j {
+        0 => f.0,
+        1 => f.1,
+        2 => high(f.2),
+        3 => low(f.2),
+        4 => high(f.3),
+        5 => low(f.3),
+        6 => high(f.4),
+        7 => low(f.4),
+        8 => high(f.5),
+        9 => low(f.5),
+        10 => high(f.6),
+        _ => low(f.6),
+    }
+}
+
+fn high(n: u16) -> u8 {
+    (n / 256) as u8
+}
+
+fn low(n: u16) -> u8 {
+    (n % 256) as u8
+}
+
+// The bytes of all frames, one after another.
+fn tables() -> [u8; 468]
+    ensures { λ r. ⌜ length r ≡ 468 ⌝ }
+{
+    let mut t = [0u8; 468];
+    let mut i = 0;
+    while i < 468 {
+        t[i] = byte_of(frame_at(i / 12), i % 12);
+        i += 1;
+    }
+    t
+}
+
+// ---- The calls
+
+// Makes a call. Nothing is answered as the call before was.
+fn make(t: &[u8], store: &mut [u32], out: &mut [u8], call: Call, before: Answer) -> Answer {
+    let value = [call.2; 1];
+    let what = call.0;
+    match what {
+        0 => before,
+        1 => load(t, store),
+        2 => advance(t, store, call.1),
+        3 => arrival(t, store, 0, call.1, &value[..0]),
+        4 => arrival(t, store, 0, call.1, &value),
+        _ => run(t, store, call.1, out),
+    }
+}
+
+// Makes the calls from one to another, and then the case's own.
+fn make_all(
+    t: &[u8],
+    store: &mut [u32],
+    out: &mut [u8],
+    from: usize,
+    to: usize,
+    own: Call,
+) -> Answer
+    requires { ⌜ to ≤ 10 ⌝ }
+{
+    let mut i = from;
+    let mut answer = Answer::Done;
+    while i < to {
+        answer = make(t, store, out, call_at(i), answer);
+        i += 1;
+    }
+    make(t, store, out, own, answer)
+}
+
+// ---- What is asked
+
+// Refusal, frame, moves, stop number, bytes.
+fn answered(answer: Answer) -> Five {
+    Five(
+        answer.number() as u64,
+        answer.frame() as u64,
+        answer.moves() as u64,
+        answer.stop() as u64,
+        answer.bytes() as u64,
+    )
+}
+
+// The first record of the output: element and event input, birth, last update, now, a value.
+fn recorded(out: &[u8; 4096]) -> Five {
+    Five(
+        word_at(out, 0) as u64,
+        word_at(out, 4) as u64,
+        word_at(out, 8) as u64,
+        word_at(out, 12) as u64,
+        word_at(out, 16) as u64,
+    )
+}
+
+// Due flag and due time of element 1.
+fn due(store: &[u32; 40]) -> Five {
+    Five(
+        due_flag(store, 1) as u64,
+        due_time(store, 1) as u64,
+        0,
+        0,
+        0,
+    )
+}
+
+// What comes out of a case on its table.
+fn outcome_on(t: &[u8], row: Row) -> Five
+    requires { ⌜ Fits row ⌝ }
+{
+    let mut store = [7u32; 40];
+    let mut out = io::buffer();
+    let words = row.2;
+    let room = row.3;
+    let answer = make_all(
+        t,
+        &mut store[..words],
+        &mut out[..room],
+        row.4,
+        row.5,
+        Call(row.6, row.7, row.8),
+    );
+    let asked = row.0;
+    match asked {
+        0 => answered(answer),
+        1 => recorded(&out),
+        _ => due(&store),
+    }
+}
+
+// What comes out of a case.
+pub fn outcome(row: Row) -> Five
+    requires { ⌜ Fits row ⌝ }
+{
+    if row.0 == 3 {
+        return Five(operate_words(row.6, row.7, row.8, 0) as u64, 0, 0, 0, 0);
+    }
+    let t = tables();
+    let table = row.1;
+    match table {
+        0 => outcome_on(&t[..300], row),
+        1 => outcome_on(&t[..312], row),
+        _ => outcome_on(&t[312..], row),
+    }
+}

@@ -1,0 +1,171 @@
+/*
+ * A host for a stairwell light: a push button switches the lamp on, and it goes off so many ticks after the last push.
+ *
+ * It does what every host does: check the table and lend a store (main), let events arrive and time pass (main), run in slices, so that a
+ * controller gets to its other work between them (settle), and read the records that the network's sinks write (print_records).
+ *
+ *     cc -std=c99 -Iinclude examples/host.c target/staticlib/libxaluudhiga.a -o host
+ */
+#include <stdint.h>
+#include <stdio.h>
+
+#include "xaluudhiga.h"
+
+/* ---- The network, as a compiler would write it */
+
+#define HALF(n) (uint8_t)((n) >> 8), (uint8_t)((n) & 0xFF)
+#define FRAME(kind, flag, a, b, c, d, e) kind, flag, HALF(a), HALF(b), HALF(c), HALF(d), HALF(e)
+
+enum { PUSH = 0 }; /* the event output by which a push arrives */
+
+static const uint8_t table[] = {
+    FRAME(XAL_KIND_ELEMENT, 3, 0, 0, 0, 0, 0),      /* element 0: the button, a source */
+    FRAME(XAL_KIND_ELEMENT, 0, 1, 0, 0, 0, 0),      /* element 1: the light's control, a basic block, at first in state 0 */
+    FRAME(XAL_KIND_ELEMENT, 2, 2, 0, 0, 0, 0),      /* element 2: the timer, a delay */
+    FRAME(XAL_KIND_ELEMENT, 4, 3, 0, 0, 0, 0),      /* element 3: the lamp, a sink */
+    FRAME(XAL_KIND_EVENT_INPUT, 0, 1, 0, 0, 0, 0),  /* event input 0: PUSHED of the control */
+    FRAME(XAL_KIND_EVENT_INPUT, 1, 1, 0, 0, 0, 0),  /* event input 1: ELAPSED of the control */
+    FRAME(XAL_KIND_EVENT_INPUT, 0, 2, 0, 0, 0, 0),  /* event input 2: START of the timer */
+    FRAME(XAL_KIND_EVENT_INPUT, 1, 2, 0, 0, 0, 0),  /* event input 3: STOP of the timer */
+    FRAME(XAL_KIND_EVENT_INPUT, 0, 3, 0, 0, 0, 0),  /* event input 4: SET of the lamp */
+    FRAME(XAL_KIND_EVENT_OUTPUT, 0, 0, 0, 0, 0, 0), /* event output 0: PUSH of the button */
+    FRAME(XAL_KIND_EVENT_OUTPUT, 0, 1, 0, 0, 0, 0), /* event output 1: SWITCHED of the control */
+    FRAME(XAL_KIND_EVENT_OUTPUT, 0, 2, 0, 0, 0, 0), /* event output 2: ELAPSED of the timer */
+    FRAME(XAL_KIND_VARIABLE, 1, 0, 0, 0, 0, 0),     /* variable 0: TIME of the button, an output */
+    FRAME(XAL_KIND_VARIABLE, 1, 1, 0, 0, 0, 0),     /* variable 1: LIT of the control, an output */
+    FRAME(XAL_KIND_VARIABLE, 2, 1, 0, 0, 0, 0),     /* variable 2: OFF, 0 */
+    FRAME(XAL_KIND_VARIABLE, 2, 1, 0, 1, 0, 0),     /* variable 3: ON, 1 */
+    FRAME(XAL_KIND_VARIABLE, 0, 2, 0, 0, 0, 0),     /* variable 4: DT of the timer, an input */
+    FRAME(XAL_KIND_VARIABLE, 0, 3, 0, 0, 0, 0),     /* variable 5: LIT of the lamp, an input */
+    FRAME(XAL_KIND_ASSOCIATION, 0, 2, 4, 0, 0, 0),  /* START samples DT */
+    FRAME(XAL_KIND_ASSOCIATION, 0, 4, 5, 0, 0, 0),  /* SET samples LIT */
+    FRAME(XAL_KIND_ASSOCIATION, 1, 0, 0, 0, 0, 0),  /* PUSH carries TIME */
+    FRAME(XAL_KIND_ASSOCIATION, 1, 1, 1, 0, 0, 0),  /* SWITCHED carries LIT */
+    FRAME(XAL_KIND_STATE, 0, 1, 0, 0, 0, 0),        /* state 0: dark */
+    FRAME(XAL_KIND_STATE, 0, 1, 0, 0, 0, 0),        /* state 1: lit */
+    FRAME(XAL_KIND_TRANSITION, 0, 0, 1, 0, 0, 0),   /* dark to lit on PUSHED */
+    FRAME(XAL_KIND_TRANSITION, 0, 1, 0, 1, 0, 0),   /* lit to dark on ELAPSED */
+    FRAME(XAL_KIND_ACTION, 0, 0, 0, 1, 1, 0),       /* dark: step 0, then SWITCHED */
+    FRAME(XAL_KIND_ACTION, 0, 1, 1, 1, 1, 0),       /* lit: step 1, then SWITCHED */
+    FRAME(XAL_KIND_STEP, 0, 1, 2, 0, 0, 0),         /* step 0: LIT = OFF */
+    FRAME(XAL_KIND_STEP, 0, 1, 3, 0, 0, 0),         /* step 1: LIT = ON */
+    FRAME(XAL_KIND_EVENT_CONNECTION, 0, 0, 0, 0, 0, 0), /* PUSH to PUSHED */
+    FRAME(XAL_KIND_EVENT_CONNECTION, 0, 0, 2, 0, 0, 0), /* PUSH to START: each push starts the timer anew */
+    FRAME(XAL_KIND_EVENT_CONNECTION, 0, 1, 4, 0, 0, 0), /* SWITCHED to SET */
+    FRAME(XAL_KIND_EVENT_CONNECTION, 0, 2, 1, 0, 0, 0), /* the timer's ELAPSED to the control's */
+    FRAME(XAL_KIND_DATA_CONNECTION, 0, 0, 4, 0, 0, 0),  /* TIME to DT */
+    FRAME(XAL_KIND_DATA_CONNECTION, 0, 1, 5, 0, 0, 0),  /* LIT to LIT */
+};
+
+/* A host that knows its table lends exactly its need; one that takes any table lends XAL_MAX_NEED words. */
+enum { ELEMENTS = 4, STORE_WORDS = XAL_NEED(ELEMENTS, 5, 6) };
+static uint32_t store[STORE_WORDS];
+
+/* What a table and a store are in each call. */
+#define NETWORK table, sizeof table, store, STORE_WORDS
+
+/* ---- Calls that this host knows to be right: one that is refused shows a fault of the host or of the table */
+
+static int refused;
+
+static void judge(const char *call, uint64_t answer) {
+    if (answer != XAL_DONE) {
+        printf("%s: refused %u, frame %u\n", call, xal_number(answer), xal_frame(answer));
+        refused = 1;
+    }
+}
+
+/* ---- Records */
+
+static unsigned number_at(const uint8_t *p, int bytes) {
+    unsigned n = 0;
+    while (bytes-- > 0)
+        n = n << 8 | *p++;
+    return n;
+}
+
+/* How many values the records of an event input have: its associations, read from the stretch of the table that holds them. */
+static unsigned values_of(unsigned event) {
+    size_t start, bytes = xal_frames_of(table, sizeof table, XAL_KIND_ASSOCIATION, &start);
+    unsigned count = 0;
+    for (const uint8_t *frame = table + start; frame != table + start + bytes; frame += XAL_FRAME_BYTES)
+        if (frame[1] == 0 && number_at(frame + 2, 2) == event)
+            count++;
+    return count;
+}
+
+static void print_records(const uint8_t *record, size_t bytes) {
+    const uint8_t *end = record + bytes;
+    while (record != end) {
+        unsigned event = number_at(record + 2, 2), values = values_of(event);
+        printf("%4u  element %u, event input %u, born %u, last update %u:", number_at(record + 12, 4), number_at(record, 2), event,
+               number_at(record + 4, 4), number_at(record + 8, 4));
+        record += XAL_RECORD_HEAD_BYTES;
+        for (; values > 0; values--, record += XAL_RECORD_VALUE_BYTES)
+            printf(" %d", (int)number_at(record, 4));
+        printf("\n");
+    }
+}
+
+/* ---- Running */
+
+/* Runs in slices of 20 moves until no move is left. The output buffer has room for one record at least, so each slice goes on. */
+static void settle(void) {
+    enum { SLICE = 20 };
+    uint8_t output[XAL_MAX_RECORD_BYTES];
+    uint32_t moves, stop;
+    size_t bytes;
+    do {
+        judge("run", xal_run(NETWORK, SLICE, output, sizeof output, &moves, &stop, &bytes));
+        printf("%4u  %u moves, stopped with %u\n", (unsigned)store[XAL_WORD_NOW], (unsigned)moves, (unsigned)stop);
+        print_records(output, bytes);
+        /* A controller does its other work here. */
+    } while (stop == XAL_STOP_BUDGET || stop == XAL_STOP_ROOM);
+}
+
+/* The next moment at which a delay is due: 1 and the time, or 0 where none is. No advance may pass it (refusal 8). */
+static int next_due(uint32_t *time) {
+    int found = 0;
+    for (int e = 0; e < ELEMENTS; e++) {
+        const uint32_t *element = store + XAL_STORE_HEAD + e * XAL_ELEMENT_WORDS;
+        if (element[XAL_ELEMENT_DUE_FLAG] && (!found || element[XAL_ELEMENT_DUE_TIME] < *time)) {
+            *time = element[XAL_ELEMENT_DUE_TIME];
+            found = 1;
+        }
+    }
+    return found;
+}
+
+/* What a clock and an input card would give: pushes, each with the time for which the lamp is to burn. */
+static const struct {
+    uint32_t at;
+    int32_t ticks;
+} pushes[] = {{10, 300}, {200, 300}, {900, 50}};
+enum { PUSHES = sizeof pushes / sizeof pushes[0] };
+
+int main(void) {
+    uint64_t verdict = xal_check(table, sizeof table);
+    printf("table of %u frames: number %u, need %u words\n", (unsigned)(sizeof table / XAL_FRAME_BYTES), xal_number(verdict),
+           (unsigned)xal_need(table, sizeof table));
+    judge("load", xal_load(NETWORK));
+
+    int next = 0;
+    while (!refused) {
+        uint32_t due;
+        int waits = next_due(&due);
+        if (waits && (next == PUSHES || due <= pushes[next].at)) {
+            judge("advance", xal_advance(NETWORK, due)); /* fires the delays that are due */
+        } else if (next < PUSHES) {
+            judge("advance", xal_advance(NETWORK, pushes[next].at));
+            judge("arrival", xal_arrival(NETWORK, PUSH, pushes[next].at, &pushes[next].ticks, 1));
+            next++;
+        } else {
+            break; /* nothing is to come */
+        }
+        settle();
+    }
+
+    /* What cannot be done is refused, and leaves the store as it is: time does not run backwards. */
+    printf("advance to 0: refused %u at now %u\n", xal_number(xal_advance(NETWORK, 0)), (unsigned)store[XAL_WORD_NOW]);
+    return refused;
+}

@@ -1,0 +1,198 @@
+/*
+ * Xaluudhiga: a runtime for IEC 61499 function blocks.
+ *
+ * A network of function blocks comes as a table of 12-byte frames, made by a compiler. The library checks the table, loads a store for it
+ * and runs it by three calls: advance (time passes), arrival (an event comes from outside) and run (make moves). It has no memory of its
+ * own, takes none from a heap and makes no system call: all that it knows is in the table and the store that the host lends. So a host may
+ * keep any number of stores, copy them, and go on from a copy.
+ *
+ * Every call is proved to do what the build definition (document 01) says, for every table, store, time and value list, and to read and
+ * write nothing but what it is lent. None can be called at a wrong moment: what a call cannot do it refuses, by a number, and a refused
+ * call leaves the store and the output buffer exactly as they came.
+ *
+ * What the caller must keep to, since C cannot check it:
+ *   - each pointer is valid for the length that follows it, aligned for its type, and not null, also where the length is 0;
+ *   - lengths count elements: bytes of a table and of an output buffer, 32-bit words of a store, values of an arrival;
+ *   - what is lent to one call does not overlap, and nobody else changes any of it, or reads what the call writes, while the call runs.
+ *
+ * Link with libxaluudhiga.a (x86-64 Linux). C99; C++ may include this file too.
+ */
+#ifndef XALUUDHIGA_H
+#define XALUUDHIGA_H
+
+#include <stddef.h>
+#include <stdint.h>
+
+#ifdef __cplusplus
+extern "C" {
+#endif
+
+/* ---- The table */
+
+enum {
+    XAL_FRAME_BYTES = 12,      /* kind, flag, then a, b, c, d, e of two bytes each, high byte first */
+    XAL_MAX_TABLE_BYTES = 49152,
+    XAL_MAX_FRAMES = 4096,
+    XAL_MAX_ELEMENTS = 64,
+    XAL_MAX_EVENT_INPUTS = 256,
+    XAL_MAX_EVENT_OUTPUTS = 256,
+    XAL_MAX_VARIABLES = 512,
+    XAL_MAX_STATES = 512,
+    XAL_MAX_TRANSITIONS = 1024,
+    XAL_MAX_ACTION_STEPS = 64, /* steps of one action */
+    XAL_MAX_EVENT_VARIABLES = 8, /* associations of one event: so many values has an arrival or a record at most */
+    XAL_NONE = 0xFFFF          /* "none" in a field that may name nothing */
+};
+
+/* The kind of a frame. */
+enum {
+    XAL_KIND_ELEMENT = 0x01,
+    XAL_KIND_EVENT_INPUT = 0x02,
+    XAL_KIND_EVENT_OUTPUT = 0x03,
+    XAL_KIND_VARIABLE = 0x04,
+    XAL_KIND_ASSOCIATION = 0x05,
+    XAL_KIND_STATE = 0x06,
+    XAL_KIND_TRANSITION = 0x07,
+    XAL_KIND_ACTION = 0x08,
+    XAL_KIND_STEP = 0x09,
+    XAL_KIND_EVENT_CONNECTION = 0x0A,
+    XAL_KIND_DATA_CONNECTION = 0x0B
+};
+
+/* ---- Answers
+ *
+ * A call answers 0 when it is done, and else number * 65536 + frame: the refusal number, and for XAL_REFUSED_FRAME to XAL_REFUSED_NETWORK
+ * the lowest faulty frame of the table, counted from 0.
+ */
+enum {
+    XAL_DONE = 0,
+    XAL_REFUSED_LENGTH = 1,      /* the table's length is 0, no multiple of 12, or above 49,152 */
+    XAL_REFUSED_FRAME = 2,       /* a frame's kind, flag, step count or unused field is wrong, or it is one too many of its kind */
+    XAL_REFUSED_REFERENCE = 3,   /* a reference is wrong */
+    XAL_REFUSED_NETWORK = 4,     /* a network rule is broken */
+    XAL_REFUSED_SHORT_STORE = 5, /* the store is shorter than its need */
+    XAL_REFUSED_STORE = 6,       /* the store is not well formed */
+    XAL_REFUSED_TIME = 7,        /* advance to a time before now or above XAL_MAX_TIME */
+    XAL_REFUSED_DUE = 8,         /* advance beyond the due time of a delay: advance to that time first */
+    XAL_REFUSED_EVENT = 9,       /* arrival names no event output of a source */
+    XAL_REFUSED_BIRTH = 10,      /* arrival born after now */
+    XAL_REFUSED_VALUES = 11      /* the number of values differs from the event's associations */
+};
+
+/* The refusal number of an answer: XAL_DONE or one of the above. */
+static inline unsigned xal_number(uint64_t answer) {
+    return (unsigned)(answer >> 16);
+}
+
+/* The faulty frame that an answer names, 0 where it names none. */
+static inline unsigned xal_frame(uint64_t answer) {
+    return (unsigned)(answer & 0xFFFF);
+}
+
+/* ---- The store
+ *
+ * 32-bit words; signed values in two's complement. A store is made by xal_load and kept by the host, who may read any word of it:
+ *
+ *   XAL_WORD_..                                          of the whole network
+ *   XAL_STORE_HEAD + 3 * element                         XAL_ELEMENT_..: chart state, due flag, due time
+ *   XAL_STORE_HEAD + 3 * elements + 3 * event_input      waiting flag, birth, last update
+ *   XAL_STORE_HEAD + 3 * elements + 3 * event_inputs + 2 * variable      value, buffer
+ *
+ * Words past the need are never touched by any call.
+ */
+enum {
+    XAL_WORD_NOW = 0,
+    XAL_WORD_RUNNING_ELEMENT = 1, /* plus 1, or 0 */
+    XAL_WORD_CURRENT_EVENT = 2,   /* plus 1, or 0 */
+    XAL_WORD_BIRTH = 3,
+    XAL_WORD_MODE = 4,            /* 0 idle, 1 charts, 2 acts */
+    XAL_WORD_LIVE = 5,
+    XAL_WORD_ACTION = 6,
+    XAL_WORD_STEP = 7,
+    XAL_WORD_OVERWRITTEN = 8,     /* events that came to an input that waited already; stops at 4,294,967,295 */
+    XAL_STORE_HEAD = 16,
+    XAL_ELEMENT_WORDS = 3,
+    XAL_ELEMENT_STATE = 0,
+    XAL_ELEMENT_DUE_FLAG = 1,     /* 1 on a delay that is running, else 0 */
+    XAL_ELEMENT_DUE_TIME = 2,
+    XAL_EVENT_INPUT_WORDS = 3,
+    XAL_VARIABLE_WORDS = 2
+};
+
+/* The need: so many words must a store have, by the number of frames of three kinds. A constant where the numbers are. */
+#define XAL_NEED(elements, event_inputs, variables)                                                            \
+    ((size_t)XAL_STORE_HEAD + (size_t)XAL_ELEMENT_WORDS * (size_t)(elements) +                                 \
+     (size_t)XAL_EVENT_INPUT_WORDS * (size_t)(event_inputs) + (size_t)XAL_VARIABLE_WORDS * (size_t)(variables))
+
+/* The need of the greatest table: a store of so many words suits every table. */
+#define XAL_MAX_NEED XAL_NEED(XAL_MAX_ELEMENTS, XAL_MAX_EVENT_INPUTS, XAL_MAX_VARIABLES)
+
+/* ---- Times are whole ticks, 0 to this. */
+#define XAL_MAX_TIME UINT32_C(2147483647)
+
+/* ---- Records
+ *
+ * Taking an event of a sink writes a record, each number high byte first: element and event input (2 bytes each), birth, last update and
+ * now (4 each), then the values of the event's associated variables in table order (4 each, signed).
+ */
+enum {
+    XAL_RECORD_HEAD_BYTES = 16,
+    XAL_RECORD_VALUE_BYTES = 4,
+    XAL_MAX_RECORD_BYTES = 48 /* an output buffer of so many bytes has room for any record */
+};
+
+/* ---- Why a run stopped */
+enum {
+    XAL_STOP_IDLE = 1,   /* no move exists: only advance and arrival can go on */
+    XAL_STOP_BUDGET = 2, /* the budget is used and a move exists */
+    XAL_STOP_ROOM = 3    /* the next move's record has no room in the output buffer; the move was not made */
+};
+
+/* ---- The calls */
+
+/* The verdict on a table: 0 or a refusal 1 to 4. Writes nothing. Each call below gives the same verdict first. */
+uint64_t xal_check(const uint8_t *table, size_t table_bytes);
+
+/* The need of a table in words; 0 for a table that is refused. Writes nothing. */
+size_t xal_need(const uint8_t *table, size_t table_bytes);
+
+/*
+ * Zeroes the store's need, then sets initial chart states and start values. Refuses by 1 to 5.
+ * The words may hold anything before; those past the need stay as they are.
+ */
+uint64_t xal_load(const uint8_t *table, size_t table_bytes, uint32_t *store, size_t store_words);
+
+/*
+ * Sets now to `to` and fires each delay that is due then. Refuses by 1 to 8.
+ * A refused call leaves the store as it came.
+ */
+uint64_t xal_advance(const uint8_t *table, size_t table_bytes, uint32_t *store, size_t store_words, uint32_t to);
+
+/*
+ * Puts the values into the output variables associated with the event, in table order, and fires the event: an event output of a source,
+ * named by its id, born at `birth`, which may lie in the past. Refuses by 1 to 6 and 9 to 11.
+ * A refused call leaves the store as it came.
+ */
+uint64_t xal_arrival(const uint8_t *table, size_t table_bytes, uint32_t *store, size_t store_words, size_t event, uint32_t birth,
+                     const int32_t *values, size_t value_count);
+
+/*
+ * Makes moves until no move exists, else the next move's record has no room in the output buffer, else the budget is used, and tells the
+ * moves made, why it stopped (XAL_STOP_..) and the bytes written: whole records, from the buffer's start. Refuses by 1 to 6.
+ * The rest of the buffer stays as it is. A refused call leaves store and buffer as they came and tells 0, 0 and 0.
+ */
+uint64_t xal_run(const uint8_t *table, size_t table_bytes, uint32_t *store, size_t store_words, uint32_t budget, uint8_t *output,
+                 size_t output_bytes, uint32_t *moves, uint32_t *stop, size_t *bytes);
+
+/*
+ * The stretch of the table that holds the frames of one kind, and that which holds the steps of one action, named by its id. Answers its
+ * length in bytes, and tells the byte at which it starts. For a refused table, an unknown number and where there are none: 0 and 0.
+ */
+size_t xal_frames_of(const uint8_t *table, size_t table_bytes, size_t kind, size_t *start);
+size_t xal_steps_of(const uint8_t *table, size_t table_bytes, size_t action, size_t *start);
+
+#ifdef __cplusplus
+}
+#endif
+
+#endif

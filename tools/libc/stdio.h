@@ -1,0 +1,9 @@
+#pragma once
+#include <stddef.h>
+typedef struct file FILE;
+extern FILE *stdin, *stdout, *stderr;
+int printf(const char *, ...);
+int fprintf(FILE *, const char *, ...);
+size_t fread(void *, size_t, size_t, FILE *);
+size_t fwrite(const void *, size_t, size_t, FILE *);
+int fflush(FILE *);
