@@ -1,5 +1,5 @@
 /*
- * A host for a stairwell light: a push button switches the lamp on, and it goes off so many ticks after the last push.
+ * A host for a stairwell light: a push button switches the lamps of three floors on, and they go off so many ticks after the last push.
  *
  * It does what every host does: check the table and lend a store (main), let events arrive and time pass (main), run in slices, so that a
  * controller gets to its other work between them (settle), and read the records that the network's sinks write (print_records).
@@ -19,46 +19,58 @@
 enum { PUSH = 0 }; /* the event output by which a push arrives */
 
 static const uint8_t table[] = {
-    FRAME(XAL_KIND_ELEMENT, 3, 0, 0, 0, 0, 0),      /* element 0: the button, a source */
-    FRAME(XAL_KIND_ELEMENT, 0, 1, 0, 0, 0, 0),      /* element 1: the light's control, a basic block, at first in state 0 */
-    FRAME(XAL_KIND_ELEMENT, 2, 2, 0, 0, 0, 0),      /* element 2: the timer, a delay */
-    FRAME(XAL_KIND_ELEMENT, 4, 3, 0, 0, 0, 0),      /* element 3: the lamp, a sink */
-    FRAME(XAL_KIND_EVENT_INPUT, 0, 1, 0, 0, 0, 0),  /* event input 0: PUSHED of the control */
-    FRAME(XAL_KIND_EVENT_INPUT, 1, 1, 0, 0, 0, 0),  /* event input 1: ELAPSED of the control */
-    FRAME(XAL_KIND_EVENT_INPUT, 0, 2, 0, 0, 0, 0),  /* event input 2: START of the timer */
-    FRAME(XAL_KIND_EVENT_INPUT, 1, 2, 0, 0, 0, 0),  /* event input 3: STOP of the timer */
-    FRAME(XAL_KIND_EVENT_INPUT, 0, 3, 0, 0, 0, 0),  /* event input 4: SET of the lamp */
-    FRAME(XAL_KIND_EVENT_OUTPUT, 0, 0, 0, 0, 0, 0), /* event output 0: PUSH of the button */
-    FRAME(XAL_KIND_EVENT_OUTPUT, 0, 1, 0, 0, 0, 0), /* event output 1: SWITCHED of the control */
-    FRAME(XAL_KIND_EVENT_OUTPUT, 0, 2, 0, 0, 0, 0), /* event output 2: ELAPSED of the timer */
-    FRAME(XAL_KIND_VARIABLE, 1, 0, 0, 0, 0, 0),     /* variable 0: TIME of the button, an output */
-    FRAME(XAL_KIND_VARIABLE, 1, 1, 0, 0, 0, 0),     /* variable 1: LIT of the control, an output */
-    FRAME(XAL_KIND_VARIABLE, 2, 1, 0, 0, 0, 0),     /* variable 2: OFF, 0 */
-    FRAME(XAL_KIND_VARIABLE, 2, 1, 0, 1, 0, 0),     /* variable 3: ON, 1 */
-    FRAME(XAL_KIND_VARIABLE, 0, 2, 0, 0, 0, 0),     /* variable 4: DT of the timer, an input */
-    FRAME(XAL_KIND_VARIABLE, 0, 3, 0, 0, 0, 0),     /* variable 5: LIT of the lamp, an input */
-    FRAME(XAL_KIND_ASSOCIATION, 0, 2, 4, 0, 0, 0),  /* START samples DT */
-    FRAME(XAL_KIND_ASSOCIATION, 0, 4, 5, 0, 0, 0),  /* SET samples LIT */
-    FRAME(XAL_KIND_ASSOCIATION, 1, 0, 0, 0, 0, 0),  /* PUSH carries TIME */
-    FRAME(XAL_KIND_ASSOCIATION, 1, 1, 1, 0, 0, 0),  /* SWITCHED carries LIT */
-    FRAME(XAL_KIND_STATE, 0, 1, 0, 0, 0, 0),        /* state 0: dark */
-    FRAME(XAL_KIND_STATE, 0, 1, 0, 0, 0, 0),        /* state 1: lit */
-    FRAME(XAL_KIND_TRANSITION, 0, 0, 1, 0, 0, 0),   /* dark to lit on PUSHED */
-    FRAME(XAL_KIND_TRANSITION, 0, 1, 0, 1, 0, 0),   /* lit to dark on ELAPSED */
-    FRAME(XAL_KIND_ACTION, 0, 0, 0, 1, 1, 0),       /* dark: step 0, then SWITCHED */
-    FRAME(XAL_KIND_ACTION, 0, 1, 1, 1, 1, 0),       /* lit: step 1, then SWITCHED */
-    FRAME(XAL_KIND_STEP, 0, 1, 2, 0, 0, 0),         /* step 0: LIT = OFF */
-    FRAME(XAL_KIND_STEP, 0, 1, 3, 0, 0, 0),         /* step 1: LIT = ON */
+    FRAME(XAL_KIND_ELEMENT, 3, 0, 0, 0, 0, 0),          /* element 0: the button, a source */
+    FRAME(XAL_KIND_ELEMENT, 0, 1, 0, 0, 0, 0),          /* element 1: the light's control, a basic block, at first in state 0 */
+    FRAME(XAL_KIND_ELEMENT, 2, 2, 0, 0, 0, 0),          /* element 2: the timer, a delay */
+    FRAME(XAL_KIND_ELEMENT, 4, 3, 0, 0, 0, 0),          /* elements 3, 4 and 5: the lamps, sinks */
+    FRAME(XAL_KIND_ELEMENT, 4, 4, 0, 0, 0, 0),
+    FRAME(XAL_KIND_ELEMENT, 4, 5, 0, 0, 0, 0),
+    FRAME(XAL_KIND_EVENT_INPUT, 0, 1, 0, 0, 0, 0),      /* event input 0: PUSHED of the control */
+    FRAME(XAL_KIND_EVENT_INPUT, 1, 1, 0, 0, 0, 0),      /* event input 1: ELAPSED of the control */
+    FRAME(XAL_KIND_EVENT_INPUT, 0, 2, 0, 0, 0, 0),      /* event input 2: START of the timer */
+    FRAME(XAL_KIND_EVENT_INPUT, 1, 2, 0, 0, 0, 0),      /* event input 3: STOP of the timer */
+    FRAME(XAL_KIND_EVENT_INPUT, 0, 3, 0, 0, 0, 0),      /* event inputs 4, 5 and 6: SET of the lamps */
+    FRAME(XAL_KIND_EVENT_INPUT, 0, 4, 0, 0, 0, 0),
+    FRAME(XAL_KIND_EVENT_INPUT, 0, 5, 0, 0, 0, 0),
+    FRAME(XAL_KIND_EVENT_OUTPUT, 0, 0, 0, 0, 0, 0),     /* event output 0: PUSH of the button */
+    FRAME(XAL_KIND_EVENT_OUTPUT, 0, 1, 0, 0, 0, 0),     /* event output 1: SWITCHED of the control */
+    FRAME(XAL_KIND_EVENT_OUTPUT, 0, 2, 0, 0, 0, 0),     /* event output 2: ELAPSED of the timer */
+    FRAME(XAL_KIND_VARIABLE, 1, 0, 0, 0, 0, 0),         /* variable 0: TIME of the button, an output */
+    FRAME(XAL_KIND_VARIABLE, 1, 1, 0, 0, 0, 0),         /* variable 1: LIT of the control, an output */
+    FRAME(XAL_KIND_VARIABLE, 2, 1, 0, 0, 0, 0),         /* variable 2: OFF, 0 */
+    FRAME(XAL_KIND_VARIABLE, 2, 1, 0, 1, 0, 0),         /* variable 3: ON, 1 */
+    FRAME(XAL_KIND_VARIABLE, 0, 2, 0, 0, 0, 0),         /* variable 4: DT of the timer, an input */
+    FRAME(XAL_KIND_VARIABLE, 0, 3, 0, 0, 0, 0),         /* variables 5, 6 and 7: LIT of the lamps, inputs */
+    FRAME(XAL_KIND_VARIABLE, 0, 4, 0, 0, 0, 0),
+    FRAME(XAL_KIND_VARIABLE, 0, 5, 0, 0, 0, 0),
+    FRAME(XAL_KIND_ASSOCIATION, 0, 2, 4, 0, 0, 0),      /* START samples DT */
+    FRAME(XAL_KIND_ASSOCIATION, 0, 4, 5, 0, 0, 0),      /* each SET samples its LIT */
+    FRAME(XAL_KIND_ASSOCIATION, 0, 5, 6, 0, 0, 0),
+    FRAME(XAL_KIND_ASSOCIATION, 0, 6, 7, 0, 0, 0),
+    FRAME(XAL_KIND_ASSOCIATION, 1, 0, 0, 0, 0, 0),      /* PUSH carries TIME */
+    FRAME(XAL_KIND_ASSOCIATION, 1, 1, 1, 0, 0, 0),      /* SWITCHED carries LIT */
+    FRAME(XAL_KIND_STATE, 0, 1, 0, 0, 0, 0),            /* state 0: dark */
+    FRAME(XAL_KIND_STATE, 0, 1, 0, 0, 0, 0),            /* state 1: lit */
+    FRAME(XAL_KIND_TRANSITION, 0, 0, 1, 0, 0, 0),       /* dark to lit on PUSHED */
+    FRAME(XAL_KIND_TRANSITION, 0, 1, 0, 1, 0, 0),       /* lit to dark on ELAPSED */
+    FRAME(XAL_KIND_ACTION, 0, 0, 0, 1, 1, 0),           /* dark: step 0, then SWITCHED */
+    FRAME(XAL_KIND_ACTION, 0, 1, 1, 1, 1, 0),           /* lit: step 1, then SWITCHED */
+    FRAME(XAL_KIND_STEP, 0, 1, 2, 0, 0, 0),             /* step 0: LIT = OFF */
+    FRAME(XAL_KIND_STEP, 0, 1, 3, 0, 0, 0),             /* step 1: LIT = ON */
     FRAME(XAL_KIND_EVENT_CONNECTION, 0, 0, 0, 0, 0, 0), /* PUSH to PUSHED */
     FRAME(XAL_KIND_EVENT_CONNECTION, 0, 0, 2, 0, 0, 0), /* PUSH to START: each push starts the timer anew */
-    FRAME(XAL_KIND_EVENT_CONNECTION, 0, 1, 4, 0, 0, 0), /* SWITCHED to SET */
+    FRAME(XAL_KIND_EVENT_CONNECTION, 0, 1, 4, 0, 0, 0), /* SWITCHED to each SET */
+    FRAME(XAL_KIND_EVENT_CONNECTION, 0, 1, 5, 0, 0, 0),
+    FRAME(XAL_KIND_EVENT_CONNECTION, 0, 1, 6, 0, 0, 0),
     FRAME(XAL_KIND_EVENT_CONNECTION, 0, 2, 1, 0, 0, 0), /* the timer's ELAPSED to the control's */
     FRAME(XAL_KIND_DATA_CONNECTION, 0, 0, 4, 0, 0, 0),  /* TIME to DT */
-    FRAME(XAL_KIND_DATA_CONNECTION, 0, 1, 5, 0, 0, 0),  /* LIT to LIT */
+    FRAME(XAL_KIND_DATA_CONNECTION, 0, 1, 5, 0, 0, 0),  /* the control's LIT to each lamp's */
+    FRAME(XAL_KIND_DATA_CONNECTION, 0, 1, 6, 0, 0, 0),
+    FRAME(XAL_KIND_DATA_CONNECTION, 0, 1, 7, 0, 0, 0),
 };
 
 /* A host that knows its table lends exactly its need; one that takes any table lends XAL_MAX_NEED words. */
-enum { ELEMENTS = 4, STORE_WORDS = XAL_NEED(ELEMENTS, 5, 6) };
+enum { ELEMENTS = 6, STORE_WORDS = XAL_NEED(ELEMENTS, 7, 8) };
 static uint32_t store[STORE_WORDS];
 
 /* What a table and a store are in each call. */
@@ -109,7 +121,10 @@ static void print_records(const uint8_t *record, size_t bytes) {
 
 /* ---- Running */
 
-/* Runs in slices of 20 moves until no move is left. The output buffer has room for one record at least, so each slice goes on. */
+/*
+ * Runs in slices of 20 moves until no move is left. The output buffer has room for any one record, so each slice goes on; here it has room
+ * for two, and a third stops the run, to go on in the next slice.
+ */
 static void settle(void) {
     enum { SLICE = 20 };
     uint8_t output[XAL_MAX_RECORD_BYTES];
@@ -136,7 +151,7 @@ static int next_due(uint32_t *time) {
     return found;
 }
 
-/* What a clock and an input card would give: pushes, each with the time for which the lamp is to burn. */
+/* What a clock and an input card would give: pushes, each with the time for which the lamps are to burn. */
 static const struct {
     uint32_t at;
     int32_t ticks;
