@@ -97,15 +97,15 @@ impl Session {
         }
     }
 
-    // Nothing could be written: the program stops.
-    pub fn broken(self) -> Self
-        ensures { λ r. ⌜ (r .phase ≡ Phase.Stopped) × (r .end ≡ self .end) × (r .length ≡ self .length) × (r .at ≡ 0) ⌝ }
+    // The program stops.
+    pub fn ended(self) -> Self
+        ensures { λ r. ⌜ (r .phase ≡ Phase.Stopped) × (r .end ≡ self .end) × (r .length ≡ self .length) × (r .at ≡ self .at) ⌝ }
     {
         Session {
             phase: Phase::Stopped,
             end: self.end,
             length: self.length,
-            at: 0,
+            at: self.at,
         }
     }
 

@@ -17,7 +17,7 @@ fn flush(text: &[u8], s: Session) -> Session
     if io::write_all(STDOUT_FILENO, stretch(text, s.at)) {
         s.written()
     } else {
-        s.broken()
+        s.ended().written()
     }
 }
 
@@ -56,8 +56,47 @@ fn take_all(
     s
 }
 
-// Reads until the input ends, a read fails or the session stops. A proved loop has to end, and nothing says that the input does: so it counts its turns down,
-// from a number that no run uses up.
+// The end of the input.
+fn take_last(
+    table: &mut [u8],
+    store: &mut [u32],
+    values: &mut [u32],
+    line: &[u8],
+    text: &mut [u8],
+    s: Session,
+) -> Session
+    requires { ⌜ s .at + 16384 ≤ length (now text) ⌝ }
+    ensures { λ r. ⌜ r .at + 16384 ≤ length (now (text .entry)) ⌝ }
+{
+    let r = take_end(table, store, values, line, text, s);
+    make_room(text, r.ended())
+}
+
+// Reads once and takes what came. The session stops where the input ends, and where a read fails.
+fn read_some(
+    table: &mut [u8],
+    store: &mut [u32],
+    values: &mut [u32],
+    line: &mut [u8],
+    input: &mut [u8],
+    text: &mut [u8],
+    s: Session,
+) -> Session
+    requires { ⌜ s .at + 16384 ≤ length (now text) ⌝ }
+    ensures { λ r. ⌜ r .at + 16384 ≤ length (now (text .entry)) ⌝ }
+{
+    let got = libc::read(STDIN_FILENO, input);
+    if got < 0 {
+        return s.ended();
+    }
+    if got == 0 {
+        return take_last(table, store, values, line, text, s);
+    }
+    let n = io::count(got, input);
+    take_all(table, store, values, line, stretch(input, n), text, s)
+}
+
+// Reads until the session stops. A proved loop has to end, and nothing says that the input does: so it counts its turns down, from a number that no run uses up.
 fn read_all(
     table: &mut [u8],
     store: &mut [u32],
@@ -65,27 +104,16 @@ fn read_all(
     line: &mut [u8],
     input: &mut [u8],
     text: &mut [u8],
-)
+) -> Session
     requires { ⌜ 16384 ≤ length (now text) ⌝ }
 {
     let mut s = Session::new();
     let mut turns = u64::MAX;
-    while turns > 0 {
-        let got = libc::read(STDIN_FILENO, input);
-        if got == 0 {
-            s = take_end(table, store, values, line, text, s);
-        }
-        if got <= 0 {
-            break;
-        }
-        let n = io::count(got, input);
-        s = take_all(table, store, values, line, stretch(input, n), text, s);
-        if s.stopped() {
-            break;
-        }
+    while turns > 0 && !s.stopped() {
+        s = read_some(table, store, values, line, input, text, s);
         turns -= 1;
     }
-    flush(text, s);
+    s
 }
 
 fn main() {
@@ -98,7 +126,7 @@ fn main() {
     let mut line = [0u8; 25];
     let mut input = [0u8; 65536];
     let mut text = [0u8; 65536];
-    read_all(
+    let s = read_all(
         &mut table,
         &mut store,
         &mut values,
@@ -106,4 +134,5 @@ fn main() {
         &mut input,
         &mut text,
     );
+    flush(&text, s);
 }
