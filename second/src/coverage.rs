@@ -86,6 +86,14 @@ impl Coverage {
             .collect()
     }
 
+    /// The numbers that these sessions reached.
+    pub fn reached(&self) -> Vec<String> {
+        self.cells()
+            .filter(|cell| cell.count != 0)
+            .map(|cell| format!("{} {}", cell.row, cell.label))
+            .collect()
+    }
+
     /// Every number of the table, row by row.
     fn cells(&self) -> impl Iterator<Item = Cell> + '_ {
         let named = |row: &'static str, labels: &'static [&'static str], counts: Vec<u64>| {

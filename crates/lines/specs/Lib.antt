@@ -1,0 +1,5 @@
+pub mod Line
+pub mod Text
+pub mod Command
+pub mod Answer
+pub mod Record

@@ -1,0 +1,48 @@
+// Records printed: they come before the answer of a run, a line each.
+ghost use mathlib.Core.Path.{_≡_};
+ghost use Prim.Native.Nat.{_+_, _*_, _<_, _≤_};
+ghost use lib.ListN.{length};
+ghost use lib.Seq.{sets};
+ghost use Rattle.store.specs.Good.{Good};
+ghost use Rattle.take.specs.Record.{recordSize};
+ghost use Rattle.table.specs.Judge.{judged};
+ghost use Rattle.lines.specs.Record.{recordLines, recordsBy};
+use crate::text::put_line;
+use number::bytes::half_at;
+use table::Judged;
+use table::Shape;
+use table::check;
+use take::record::record_size;
+
+// The lines of the records that lie one after another in `out`, for a table that was accepted, and the place after them. A record's bytes 2 and 3 name its
+// event input, and that says how long it is.
+fn put_all(t: &[u8], s: Shape, out: &[u8], text: &mut [u8], at: usize) -> usize
+    requires { ⌜ Good (now t) s × (at + 3 * length (now out) ≤ length (now text)) ⌝ }
+    ensures { λ r. ⌜ (now (text .exit) ≡ sets (now (text .entry)) at (recordLines (recordSize (now (t .entry)) s) (now (out .entry)) 0 (length (now (out .entry))))) × (r ≤ at + 3 * length (now (out .entry))) × (r ≡ at + length (recordLines (recordSize (now (t .entry)) s) (now (out .entry)) 0 (length (now (out .entry))))) ⌝ }
+{
+    let n = out.len();
+    let mut from = 0;
+    let mut p = at;
+    while 16 <= n - from {
+        let size = record_size(t, s, half_at(out, from + 2));
+        if n - from < size {
+            return p;
+        }
+        let to = from + size;
+        p = put_line(&out[from..to], text, p);
+        from = to;
+    }
+    p
+}
+
+// The same for any table: a refused one has no records.
+pub fn put_records(t: &[u8], out: &[u8], text: &mut [u8], at: usize) -> usize
+    requires { ⌜ at + 3 * length (now out) ≤ length (now text) ⌝ }
+    ensures { λ r. ⌜ (now (text .exit) ≡ sets (now (text .entry)) at (recordsBy (judged (now (t .entry))) (now (t .entry)) (now (out .entry)))) × (r ≤ at + 3 * length (now (out .entry))) × (r ≡ at + length (recordsBy (judged (now (t .entry))) (now (t .entry)) (now (out .entry)))) ⌝ }
+{
+    let judged = check(t);
+    let Judged::Sound(s) = judged else {
+        return at;
+    };
+    put_all(t, s, out, text, at)
+}
