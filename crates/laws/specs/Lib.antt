@@ -4,4 +4,3 @@ pub mod Steps
 pub mod Lawfully
 pub mod Demand3
 pub mod Kept
-pub mod Agreement

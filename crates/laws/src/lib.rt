@@ -1,1 +1,1 @@
-// No code: theorems over the public calls. Demand 3, what every call keeps, and that a call's statement leaves one answer.
+// No code: theorems over the public calls. Demand 3, and what every call keeps.

@@ -2,10 +2,26 @@
 use Prim.Native.Nat.{ℕ}
 use mathlib.Core.Path.{_≡_, sym, ap, _∙_}
 use mathlib.Core.List.{List}
+use denote.Ref.{RefT, now}
 use Rattle.table.specs.declared.view.Span.{Span}
+use Rattle.table.specs.declared.Judged.{Judged}
+use Rattle.table.specs.Judge.{judged}
+use Rattle.table.specs.View.{kindSpan, stepSpan, IsPart}
+use Rattle.table.specs.Views.{one-part}
 use Rattle.xaluudhiga.specs.declared.calls.Answer.{Answer}
 use Rattle.xaluudhiga.specs.Calls.{movesOf, bytesOf, stopOf, LoadCall, AdvanceCall, ArrivalCall, RunCall}
 use Rattle.xaluudhiga.specs.Exports.{packed, Told, LoadTold, AdvanceTold, ArrivalTold, RunTold, Lies}
+
+-- ---- the check and the views: of these bytes (so length too) and place
+pub one-check : (T : List ℕ) {r q : Judged} → r ≡ judged T → q ≡ judged T → r ≡ q
+one-check T c d = c ∙ sym d
+
+module _ (t r q : RefT (List ℕ)) (k : ℕ) where
+  pub one-frames : IsPart t r (kindSpan (now t) k) → IsPart t q (kindSpan (now t) k) → (now r ≡ now q) × (r .ptr ≡ q .ptr)
+  one-frames = one-part t r q (kindSpan (now t) k)
+
+  pub one-steps : IsPart t r (stepSpan (now t) k) → IsPart t q (stepSpan (now t) k) → (now r ≡ now q) × (r .ptr ≡ q .ptr)
+  one-steps = one-part t r q (stepSpan (now t) k)
 
 -- ---- the public calls
 module _ {T s : List ℕ} {a b : Answer} {s′ s″ : List ℕ} where

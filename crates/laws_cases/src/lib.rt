@@ -1,0 +1,1 @@
+// No code: what happens in the worked session, computed.
