@@ -1,4 +1,6 @@
 pub mod Partner
+pub mod Partners
 pub mod Carry
+pub mod Carrying
 pub mod Fire
 pub mod Untouched

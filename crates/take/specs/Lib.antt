@@ -1,3 +1,4 @@
 pub mod Take
+pub mod Together
 pub mod Record
 pub mod Sizes
