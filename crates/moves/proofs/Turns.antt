@@ -72,6 +72,9 @@ action-in T S q k j p m = by (eqb k 0) (found-one (actionOf T S q k) _ j p m)
     by true e = absurd (let z : _≡_ {A = ℕ} 0 1 = cc in omega arith)
     by false e = action-one T S q k j e
 
+pub action-found : (T : List ℕ) (S : Shape) (q j a : ℕ) {k : ℕ} {f : Found} → k ≡ a → f ≡ foundOf (actionOf T S q k) → f ≡ One j → actionOf T S q a ≡ one j
+action-found T S q j a {k} e p m = rw e at (found-one (actionOf T S q k) _ j p m)
+
 module _ (T : List ℕ) (S : Shape) (time : ℕ) (r : Running) (s s′ : List ℕ) {q k : ℕ} (state : q ≡ stateOf s) (number : k ≡ r .action) {f : Found} (found : f ≡ foundOf (actionOf T S q k)) where
   pub act-none : {r′ : Running} → f ≡ Missing → r′ ≡ charting r → s′ ≡ putRunning r′ s → s′ ≡ actMove T S time r s
   unfolding actMove act
