@@ -2,7 +2,7 @@
 use mathlib.Core.Path.{_≡_, sym, _∙_}
 use mathlib.Core.List.{List}
 use mathlib.Core.Bool.{Bool, true, false}
-use Prim.Native.Nat.{ℕ, _<_}
+use Prim.Native.Nat.{ℕ}
 use native.Mathlib.Omega.{arith}
 use borrow.Author.Tests.{eq-eqb, ne-eqb}
 use Rattle.walk.specs.Choose.{choose-true, choose-false}
@@ -13,7 +13,7 @@ use Rattle.store.specs.Layout.{links, connectionFrame, linkFrame}
 use Rattle.store.specs.Word.{value, putBuffer}
 use Rattle.store.specs.Good.{Good}
 use Rattle.fire.specs.declared.carry.Voice.{Voice}
-use Rattle.fire.specs.Carry.{carries, Carried}
+use Rattle.fire.specs.Carry.{Carried}
 use Rattle.fire.specs.Fire.{mark, connect, copyIf, copies, copiesIn}
 
 -- one event connection

@@ -8,10 +8,10 @@ use Rattle.walk.specs.First.{one}
 use Rattle.frames.specs.Frame.{flagAt}
 use Rattle.table.specs.declared.Shape.{Shape}
 use Rattle.store.specs.Layout.{inputs, outputs}
-use Rattle.owned.specs.Owned.{any, belongs, rank, nth}
+use Rattle.owned.specs.Owned.{any, belongs, rank}
 use Rattle.owned.specs.Nth.{nth-own, nth-belongs, nth-rank}
 use Rattle.fire.specs.Partner.{inputOwner, outputOwner, partnerOutput, partnerInput}
-use Rattle.fire.specs.Carry.{voice, heardFrom, voiceOf}
+use Rattle.fire.specs.Carry.{voice, voiceOf}
 
 module _ (T : List ℕ) (S : Shape) (i o : ℕ) (known : i < inputs S) (partner : partnerOutput T S i ≡ one o) where
   -- the partner is of the same element, and has as many of its sort before it

@@ -9,7 +9,7 @@ use native.Mathlib.Numerals.{add-one}
 use lib.Dec.{eqb}
 use borrow.Author.Tests.{eq-eqb, ne-eqb, eqb-true}
 use Rattle.walk.specs.Pick.{both, both-left, both-right, both-intro, clash, test-cases, tri}
-use Rattle.walk.specs.Count.{countIf, count-none, count-hit, count-miss, count-mono, count-past}
+use Rattle.walk.specs.Count.{count-none, count-hit, count-miss, count-mono, count-past}
 use Rattle.walk.specs.First.{Sought, one, missing, first-in, first-true, first-is, first-missing}
 use Rattle.owned.specs.Owned.{belongs, rank, isNth, nth}
 

@@ -1,20 +1,20 @@
 -- What each way through a take leaves, over plain variables.
-use mathlib.Core.Path.{_≡_, refl, sym, ap, _∙_}
+use mathlib.Core.Path.{_≡_, refl, sym, _∙_}
 use mathlib.Core.List.{List}
 use mathlib.Core.Bool.{Bool, true, false}
-use Prim.Native.Nat.{ℕ, _+_, _<_, _≤_}
+use Prim.Native.Nat.{ℕ, _+_, _<_}
 use native.Mathlib.Omega.{arith}
 use borrow.Author.Tests.{eq-eqb, ne-eqb}
 use Rattle.walk.specs.Choose.{choose, choose-true, choose-false}
 use Rattle.walk.specs.Walk.{upTo, upTo-end}
-use Rattle.walk.specs.First.{Sought, one, missing, first-in}
+use Rattle.walk.specs.First.{first-in}
 use Rattle.number.specs.Word.{signed, ticksOf}
 use Rattle.frames.specs.Kind.{none}
 use Rattle.frames.specs.Frame.{flagAt, fieldAt}
 use Rattle.table.specs.declared.Shape.{Shape}
 use Rattle.store.specs.Good.{Good}
 use Rattle.store.specs.Laws.{value-sampled}
-use Rattle.store.specs.Layout.{inputs, variables, outputs, associations, associationFrame}
+use Rattle.store.specs.Layout.{inputs, variables, associations, associationFrame}
 use Rattle.store.specs.Word.{value, putValue, buffer, putDue}
 use Rattle.owned.specs.declared.Found.{Found}
 use Rattle.owned.specs.declared.Found.the-variants.{One, Missing}
@@ -73,10 +73,6 @@ passed-end T S i j s₀ s g p e = upTo-end _ j (associations S) s₀ s p e ∙ p
 pub partner-in : (T : List ℕ) (S : Shape) (v u : ℕ) {r : Found} → r ≡ foundOf (partnerVariable T S v) → r ≡ One u → u < variables S
 unfolding partnerVariable
 partner-in T S v u p m = nth-in T _ (variables S) _ _ _ u p m
-
-pub output-in : (T : List ℕ) (S : Shape) (i o : ℕ) {r : Found} → r ≡ foundOf (partnerOutput T S i) → r ≡ One o → o < outputs S
-unfolding partnerOutput
-output-in T S i o p m = nth-in T _ (outputs S) _ _ _ o p m
 
 -- the partner event speaks by event input i, so the set of what was passed to is the set of what it carries
 pub relay-carries : (T : List ℕ) (S : Shape) (i o : ℕ) (m : List ℕ) {r : Found} → i < inputs S → flagAt T (inputOwner T S i) ≡ 1 → r ≡ foundOf (partnerOutput T S i) → r ≡ One o
