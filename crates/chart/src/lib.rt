@@ -1,9 +1,10 @@
 // The state chart: moves 2 and 3.
 ghost use mathlib.Core.Path.{_≡_};
 ghost use mathlib.Core.Bool.{Bool};
-ghost use Prim.Native.Nat.{_<_};
+ghost use Prim.Native.Nat.{_+_, _<_};
+ghost use Rattle.walk.specs.First.{one};
 ghost use Rattle.store.specs.Good.{Good};
-ghost use Rattle.store.specs.Layout.{transitions as «transitionsOf»};
+ghost use Rattle.store.specs.Layout.{transitions as «transitionsOf», actions as «actionsOf»};
 ghost use Rattle.owned.specs.Owned.{foundOf};
 ghost use Rattle.number.specs.Bounded.{Bounded};
 ghost use Rattle.chart.specs.Chart.{heard as «heardOf», guardHolds, enabled as «enabledAt», transitionOf, actionOf, actionNumber, change as «changeOf», goIdle, elementOf, stateOf, chartMove};
@@ -110,6 +111,18 @@ pub fn action_number(t: &[u8], s: Shape, q: usize, k: u32) -> u32
         return 0;
     };
     k
+}
+
+// After action j of state q, which is its k-th: k + 1 where there is another, else 0. Only the actions behind j are looked at.
+pub fn number_after(t: &[u8], s: Shape, q: usize, j: usize, k: u32) -> u32
+    requires { ⌜ Good (now t) s × (j < actionsOf s) × (actionOf (now t) s q k ≡ one j) × (k < 4294967295) ⌝ }
+    ensures { λ r. ⌜ r ≡ actionNumber (now (t .entry)) s q (k + 1) ⌝ }
+{
+    let n = actions(s) - (j + 1);
+    let Found::One(_) = nth(t, s.transitions + (j + 1), n, ANY, q, 0) else {
+        return 0;
+    };
+    k + 1
 }
 
 // Transition j of element el is made: the state changes, live ends, mode 2, step 0, action 1 or 0.

@@ -3,6 +3,7 @@ ghost use mathlib.Core.Path.{_≡_};
 ghost use Prim.Native.Nat.{_<_};
 ghost use Rattle.store.specs.Good.{Good};
 ghost use Rattle.store.specs.Layout.{outputs};
+ghost use Rattle.fire.specs.Carry.{voiceOf, Carried};
 ghost use Rattle.fire.specs.Fire.{counted as «countedOf», mark as «markOf», connects, copiesIn, fire as «fireOf»};
 ghost use Rattle.store.specs.Layout.{Small};
 
@@ -77,13 +78,29 @@ fn copy_all(t: &[u8], store: &mut [u32], s: Shape, m: &[u32; 16])
     }
 }
 
+// Event output o is fired with this birth; m is the set of the variables that it carries.
+pub fn fire_carrying(
+    t: &[u8],
+    store: &mut [u32],
+    s: Shape,
+    o: usize,
+    m: &[u32; 16],
+    birth: u32,
+    time: u32,
+)
+    requires { ⌜ Good (now t) s × Carried (now t) s (voiceOf (now t) s o) (now m) ⌝ }
+    ensures { λ _. ⌜ now (store .exit) ≡ fireOf (now (t .entry)) s o birth time (now (store .entry)) ⌝ }
+{
+    connect_all(t, store, s, o, birth, time);
+    copy_all(t, store, s, m);
+}
+
 // Event output o is fired with this birth.
 pub fn fire(t: &[u8], store: &mut [u32], s: Shape, o: usize, birth: u32, time: u32)
     requires { ⌜ Good (now t) s × (o < outputs s) ⌝ }
     ensures { λ _. ⌜ now (store .exit) ≡ fireOf (now (t .entry)) s o birth time (now (store .entry)) ⌝ }
 {
-    connect_all(t, store, s, o, birth, time);
     let w = voice_of(t, s, o);
     let m = carried(t, s, w);
-    copy_all(t, store, s, &m);
+    fire_carrying(t, store, s, o, &m, birth, time);
 }

@@ -20,7 +20,7 @@ use Rattle.table.specs.declared.Shape.{Shape}
 use Rattle.store.specs.declared.running.Running.{Running}
 use Rattle.store.specs.Layout.{inputs, actions, actionFrame, stepFrame}
 use Rattle.store.specs.Running.{stepped, charting}
-use Rattle.store.specs.Word.{runningOf, putRunning, value, putValue, birthOf, lastUpdate}
+use Rattle.store.specs.Word.{runningOf, putRunning, value, putValue, birthOf, lastUpdate, putInput}
 use Rattle.owned.specs.declared.Found.{Found}
 use Rattle.owned.specs.declared.Found.the-variants.{One, Missing}
 use Rattle.owned.specs.Owned.{any, belongs, isNth, nth, rank, foundOf, found-one, found-missing}
@@ -31,7 +31,7 @@ use Rattle.least.specs.declared.Best.the-variants.{At, Nothing}
 use Rattle.least.specs.Least.{least}
 use Rattle.least.specs.Within.{least-in}
 use Rattle.chart.specs.Chart.{actionOf, stateOf, chartMove}
-use Rattle.take.specs.Take.{sampled, receive, taken}
+use Rattle.take.specs.Take.{samples, sampled, receive, taken}
 use Rattle.take.specs.Record.{head, values, recordOf, recordSize}
 use Rattle.moves.specs.declared.Next.{Next}
 use Rattle.moves.specs.declared.Next.the-variants.{Take, Block, Still}
@@ -71,6 +71,9 @@ action-in T S q k j p m = by (eqb k 0) (found-one (actionOf T S q k) _ j p m)
     by : (b : Bool) → pick b missing (nth T (S .transitions) (actions S) any q (k - 1)) ≡ one j → (j < actions S) × (k ≤ actions S)
     by true e = absurd (let z : _≡_ {A = ℕ} 0 1 = cc in omega arith)
     by false e = action-one T S q k j e
+
+pub action-found : (T : List ℕ) (S : Shape) (q j a : ℕ) {k : ℕ} {f : Found} → k ≡ a → f ≡ foundOf (actionOf T S q k) → f ≡ One j → actionOf T S q a ≡ one j
+action-found T S q j a {k} e p m = rw e at (found-one (actionOf T S q k) _ j p m)
 
 module _ (T : List ℕ) (S : Shape) (time : ℕ) (r : Running) (s s′ : List ℕ) {q k : ℕ} (state : q ≡ stateOf s) (number : k ≡ r .action) {f : Found} (found : f ≡ foundOf (actionOf T S q k)) where
   pub act-none : {r′ : Running} → f ≡ Missing → r′ ≡ charting r → s′ ≡ putRunning r′ s → s′ ≡ actMove T S time r s
@@ -113,22 +116,23 @@ pub ready-in : (S : Shape) (n : Next) (i : ℕ) → Ready S n → n ≡ Take i �
 ready-in S n i w e = ltb-true i (inputs S) (sym (ap (inTable S) e) ∙ w .known)
 
 -- ---- taking an event
-module _ (T : List ℕ) (S : Shape) (time i : ℕ) (s s₁ s′ o o′ : List ℕ) (at : ℕ) {el sort birth last : ℕ} (owner : el ≡ inputOwner T S i) (kind : sort ≡ flagAt T el)
-    (born : birth ≡ birthOf S s i) (late : last ≡ lastUpdate S s i) (sample : s₁ ≡ sampled T S i s) where
+module _ (T : List ℕ) (S : Shape) (time i : ℕ) (s s₁ s′ o o′ : List ℕ) (at : ℕ) {el sort birth last r : ℕ} (owner : el ≡ inputOwner T S i) (kind : sort ≡ flagAt T el)
+    (born : birth ≡ birthOf S s i) (late : last ≡ lastUpdate S s i) (stopped : s₁ ≡ putInput S i 0 0 0 s) where
   -- a sink only writes its record
-  pub took-sink : sort ≡ 4 → s′ ≡ s₁ → o′ ≡ sets o at (head (inputOwner T S i) i birth last time ++ values T S s₁ i)
-      → (s′ ≡ taken T S i time s) × (o′ ≡ sets o at (writtenBy T S time (Take i) s))
-  unfolding taken receive choose writtenBy recordOf
-  took-sink e u v =
+  pub took-sink : sort ≡ 4 → (s′ ≡ samples T S i s₁) × (o′ ≡ sets o at (head el i birth last time ++ values T S (samples T S i s₁) i)) × (r ≡ at + recordSize T S i)
+      → (s′ ≡ taken T S i time s) × (o′ ≡ sets o at (writtenBy T S time (Take i) s)) × (r ≡ at + sizeBy T S (Take i))
+  unfolding taken sampled receive choose writtenBy recordOf sizeBy takenSize
+  took-sink e u =
       let k : flagAt T (inputOwner T S i) ≡ 4 = rw (← owner) (sym kind ∙ e) in
-      (rw (k, ← sample) u, rw (k, ← sample, ← born, ← late) v)
+      (rw (k, ← stopped) (u .0), rw (k, ← stopped, ← born, ← late, ← owner) (u .1), rw k (u .2))
 
   -- another element receives it, and nothing is written
-  pub took-other : (sort ≡ 4 → ⊥) → s′ ≡ receive sort T S el i birth time s₁ → o′ ≡ o → (s′ ≡ taken T S i time s) × (o′ ≡ sets o at (writtenBy T S time (Take i) s))
-  unfolding taken writtenBy
-  took-other e u v =
+  pub took-other : (sort ≡ 4 → ⊥) → s′ ≡ receive sort T S el i birth time (samples T S i s₁) → o′ ≡ o → r ≡ at
+      → (s′ ≡ taken T S i time s) × (o′ ≡ sets o at (writtenBy T S time (Take i) s)) × (r ≡ at + sizeBy T S (Take i))
+  unfolding taken sampled writtenBy sizeBy takenSize
+  took-other e u v w =
       let k : flagAt T (inputOwner T S i) ≡ sort = rw (← owner) (sym kind) in
-      (rw (k, ← owner, ← sample, ← born) u, rw (k, choose-false _ _ _ (ne-eqb sort 4 e)) v)
+      (rw (k, ← owner, ← stopped, ← born) u, rw (k, choose-false _ _ _ (ne-eqb sort 4 e)) v, rw (k, ne-eqb sort 4 e) (omega arith))
 
 -- ---- the running block goes on
 module _ (T : List ℕ) (S : Shape) (time : ℕ) (r : Running) (s s′ : List ℕ) where
@@ -141,15 +145,16 @@ module _ (T : List ℕ) (S : Shape) (time : ℕ) (r : Running) (s s′ : List �
   block-act e u = rw (choose-false _ _ _ (ne-eqb (r .mode) 1 e)) u
 
 -- ---- one move, by what comes next
-module _ (T : List ℕ) (S : Shape) (time : ℕ) (n : Next) (s s′ o o′ : List ℕ) (at : ℕ) where
-  pub made-take : (i : ℕ) → n ≡ Take i → (s′ ≡ taken T S i time s) × (o′ ≡ sets o at (writtenBy T S time (Take i) s)) → (s′ ≡ moveBy T S time n s) × (o′ ≡ sets o at (writtenBy T S time n s))
+module _ (T : List ℕ) (S : Shape) (time : ℕ) (n : Next) (s s′ o o′ : List ℕ) (at : ℕ) {p : ℕ} where
+  pub made-take : (i : ℕ) → n ≡ Take i → (s′ ≡ taken T S i time s) × (o′ ≡ sets o at (writtenBy T S time (Take i) s)) × (p ≡ at + sizeBy T S (Take i))
+      → (s′ ≡ moveBy T S time n s) × (o′ ≡ sets o at (writtenBy T S time n s)) × (p ≡ at + sizeBy T S n)
   unfolding moveBy
   made-take i e u = rw e u
 
-  pub made-block : (r : Running) → n ≡ Block r → s′ ≡ blockMove T S time r s → o′ ≡ o → (s′ ≡ moveBy T S time n s) × (o′ ≡ sets o at (writtenBy T S time n s))
-  unfolding moveBy writtenBy
-  made-block r e u v = rw e (u, v)
+  pub made-block : (r : Running) → n ≡ Block r → s′ ≡ blockMove T S time r s → o′ ≡ o → p ≡ at → (s′ ≡ moveBy T S time n s) × (o′ ≡ sets o at (writtenBy T S time n s)) × (p ≡ at + sizeBy T S n)
+  unfolding moveBy writtenBy sizeBy
+  made-block r e u v w = rw e (u, v, omega arith)
 
-  pub made-still : n ≡ Still → s′ ≡ s → o′ ≡ o → (s′ ≡ moveBy T S time n s) × (o′ ≡ sets o at (writtenBy T S time n s))
-  unfolding moveBy writtenBy
-  made-still e u v = rw e (u, v)
+  pub made-still : n ≡ Still → s′ ≡ s → o′ ≡ o → p ≡ at → (s′ ≡ moveBy T S time n s) × (o′ ≡ sets o at (writtenBy T S time n s)) × (p ≡ at + sizeBy T S n)
+  unfolding moveBy writtenBy sizeBy
+  made-still e u v w = rw e (u, v, omega arith)

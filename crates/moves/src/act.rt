@@ -4,9 +4,11 @@ ghost use Prim.Native.Nat.{_+_, _-_, _<_, _≤_};
 ghost use Rattle.frames.specs.Frame.{framesOf, fieldAt};
 ghost use Rattle.store.specs.Good.{Good};
 ghost use Rattle.store.specs.Layout.{Small, actions as «actionsOf», outputs, actionFrame};
+ghost use Rattle.walk.specs.First.{one};
+ghost use Rattle.chart.specs.Chart.{actionOf};
 ghost use Rattle.moves.specs.Act.{oneStep, stepMove, fireAny, endMove, actMove};
-use chart::action_number;
 use chart::action_of;
+use chart::number_after;
 use chart::state_of;
 use fire::fire;
 use frames::frame::field;
@@ -67,11 +69,11 @@ fn fire_any(t: &[u8], store: &mut [u32], s: Shape, o: usize, birth: u32, time: u
 
 // The steps of action j of state q are done: its event is fired, and the next action comes.
 fn end_move(t: &[u8], store: &mut [u32], s: Shape, time: u32, q: usize, r: Running, j: usize)
-    requires { ⌜ Good (now t) s × (j < actionsOf s) × (r .action < 4294967295) ⌝ }
+    requires { ⌜ Good (now t) s × (j < actionsOf s) × (actionOf (now t) s q (r .action) ≡ one j) × (r .action < 4294967295) ⌝ }
     ensures { λ _. ⌜ now (store .exit) ≡ endMove (now (t .entry)) s time q r j (now (store .entry)) ⌝ }
 {
     let o = field(t, s.transitions + j, 3);
-    let next = action_number(t, s, q, r.action + 1);
+    let next = number_after(t, s, q, j, r.action);
     fire_any(t, store, s, o, r.birth, time);
     put_running(store, r.entered(next));
 }

@@ -1,7 +1,9 @@
 // One move: which comes next, and making it.
 ghost use mathlib.Core.Path.{_≡_};
+ghost use mathlib.Core.Bool.{Bool};
 ghost use Prim.Native.Nat.{_+_, _<_, _≤_};
 ghost use lib.ListN.{length};
+ghost use lib.Dec.{leb};
 ghost use lib.Seq.{sets};
 ghost use Rattle.store.specs.Good.{Good};
 ghost use Rattle.store.specs.Layout.{inputs};
@@ -19,12 +21,12 @@ use least::least;
 use store::running::Running;
 use store::word::birth;
 use store::word::last_update;
+use store::word::put_input;
 use store::word::running;
 use table::Shape;
 use take::receive;
 use take::record::record_size;
 use take::record::write_record;
-use take::sample;
 
 // What comes next: a waiting event is taken, or the running block goes on.
 pub enum Next {
@@ -62,7 +64,7 @@ fn taken_size(t: &[u8], s: Shape, i: usize) -> usize
 }
 
 // The bytes of the record that the next move writes.
-pub fn size(t: &[u8], s: Shape, n: Next) -> usize
+fn size(t: &[u8], s: Shape, n: Next) -> usize
     requires { ⌜ Good (now t) s × Ready s n ⌝ }
     ensures { λ r. ⌜ (r ≡ sizeBy (now (t .entry)) s n) × (r < 65536) ⌝ }
 {
@@ -73,21 +75,41 @@ pub fn size(t: &[u8], s: Shape, n: Next) -> usize
     }
 }
 
-// Takes event input i; a sink's record goes to the output at `at`.
-fn take_event(t: &[u8], store: &mut [u32], s: Shape, time: u32, i: usize, out: &mut [u8], at: usize)
+// The record of the next move has room in so many bytes. A record has 48 at most, its head and eight values: where there is room for
+// these, its size, for which the associations have to be walked, is not asked.
+pub fn fits(t: &[u8], s: Shape, n: Next, room: usize) -> bool
+    requires { ⌜ Good (now t) s × Ready s n ⌝ }
+    ensures { λ r. ⌜ r ≡ leb (sizeBy (now (t .entry)) s n) room ⌝ }
+{
+    if 48 <= room {
+        return true;
+    }
+    size(t, s, n) <= room
+}
+
+// Takes event input i; a sink's record goes to the output at `at`. The answer is the place after what is written.
+fn take_event(
+    t: &[u8],
+    store: &mut [u32],
+    s: Shape,
+    time: u32,
+    i: usize,
+    out: &mut [u8],
+    at: usize,
+) -> usize
     requires { ⌜ Good (now t) s × (i < inputs s) × (time < 2147483648) × (at + sizeBy (now t) s (Next.Take i) ≤ length (now out)) ⌝ }
-    ensures { λ _. ⌜ (now (store .exit) ≡ taken (now (t .entry)) s i time (now (store .entry))) × (now (out .exit) ≡ sets (now (out .entry)) at (writtenBy (now (t .entry)) s time (Next.Take i) (now (store .entry)))) ⌝ }
+    ensures { λ r. ⌜ (now (store .exit) ≡ taken (now (t .entry)) s i time (now (store .entry))) × (now (out .exit) ≡ sets (now (out .entry)) at (writtenBy (now (t .entry)) s time (Next.Take i) (now (store .entry)))) × (r ≡ at + sizeBy (now (t .entry)) s (Next.Take i)) ⌝ }
 {
     let born = birth(store, s, i);
     let last = last_update(store, s, i);
     let el = field(t, s.elements + i, 0);
     let sort = flag(t, el);
-    sample(t, store, s, i);
+    put_input(store, s, i, 0, 0, 0);
     if sort == 4 {
-        write_record(t, store, s, i, born, last, time, out, at);
-        return;
+        return write_record(t, store, s, el, i, born, last, time, out, at);
     }
     receive(t, store, s, sort, el, i, born, time);
+    at
 }
 
 // The running block goes on: its chart, or its actions.
@@ -102,14 +124,25 @@ fn go_on(t: &[u8], store: &mut [u32], s: Shape, time: u32, r: Running)
     act_move(t, store, s, time, r);
 }
 
-// Makes the move that comes next; its record goes to the output at `at`.
-pub fn make(t: &[u8], store: &mut [u32], s: Shape, time: u32, n: Next, out: &mut [u8], at: usize)
+// Makes the move that comes next; its record goes to the output at `at`. The answer is the place after what is written.
+pub fn make(
+    t: &[u8],
+    store: &mut [u32],
+    s: Shape,
+    time: u32,
+    n: Next,
+    out: &mut [u8],
+    at: usize,
+) -> usize
     requires { ⌜ Good (now t) s × Ready s n × (time < 2147483648) × (at + sizeBy (now t) s n ≤ length (now out)) ⌝ }
-    ensures { λ _. ⌜ (now (store .exit) ≡ moveBy (now (t .entry)) s time n (now (store .entry))) × (now (out .exit) ≡ sets (now (out .entry)) at (writtenBy (now (t .entry)) s time n (now (store .entry)))) ⌝ }
+    ensures { λ r. ⌜ (now (store .exit) ≡ moveBy (now (t .entry)) s time n (now (store .entry))) × (now (out .exit) ≡ sets (now (out .entry)) at (writtenBy (now (t .entry)) s time n (now (store .entry)))) × (r ≡ at + sizeBy (now (t .entry)) s n) ⌝ }
 {
     match n {
         Next::Take(i) => take_event(t, store, s, time, i, out, at),
-        Next::Block(r) => go_on(t, store, s, time, r),
-        Next::Still => {}
+        Next::Block(r) => {
+            go_on(t, store, s, time, r);
+            at
+        }
+        Next::Still => at,
     }
 }

@@ -3,14 +3,14 @@ use mathlib.Core.Path.{_≡_, refl, sym, ap, _∙_}
 use mathlib.Core.List.{List, [], _++_}
 use mathlib.Core.Bool.{Bool, true, false, not}
 use mathlib.Core.Logic.{⊎-elim}
-use Prim.Native.Nat.{ℕ, zero, suc, _+_, _≤_, _<_}
+use Prim.Native.Nat.{ℕ, zero, suc, _+_, _-_, _≤_, _<_}
 use native.Mathlib.Omega.{arith}
 use native.Mathlib.Numerals.{add-one}
 use lib.Dec.{leb, ltb}
 use lib.ListN.{length, length-append}
 use lib.Seq.{sets, length-sets}
-use borrow.Author.Tests.{ltb-true, leb-true, lt-ltb, le-leb}
-use Rattle.walk.specs.Pick.{pick, both, clash, both-intro}
+use borrow.Author.Tests.{ltb-true, leb-true, leb-false, lt-ltb, le-leb, lt-leb}
+use Rattle.walk.specs.Pick.{pick, both, clash, both-intro, test-cases}
 use Rattle.walk.specs.All.{allTo, all-none, all-more, all-at}
 use Rattle.walk.specs.Held.{Held, heldTo, held-is}
 use Rattle.number.specs.Sets.{and-then}
@@ -30,6 +30,12 @@ pub record Going (T : List ℕ) (S : Shape) (time budget : ℕ) (s₀ out₀ s o
   pub long : length out ≡ length out₀
   pub went : allTo (goesOn T S time (length out₀) s₀) n ≡ true
 
+-- room in what is left is room after what is written
+pub left-room : (at z room : ℕ) → at ≤ room → leb z (room - at) ≡ leb (at + z) room
+left-room at z room l =
+    ⊎-elim (λ (e : leb z (room - at) ≡ true). let h = leb-true z (room - at) e in e ∙ sym (le-leb (at + z) room (omega arith)))
+    (λ (e : leb z (room - at) ≡ false). let h = leb-false z (room - at) e in e ∙ sym (lt-leb (at + z) room (omega arith))) (test-cases (leb z (room - at)))
+
 -- what the three questions answered
 goes : (a b c : Bool) → _≡_ {A = ℕ} (pick a (pick b (pick c 0 2) 3) 1) 0 → (a ≡ true) × (b ≡ true) × (c ≡ true)
 goes true true true e = (refl, refl, refl)
@@ -48,7 +54,11 @@ module _ (T : List ℕ) (S : Shape) (time budget : ℕ) (s₀ out₀ : List ℕ)
   unfolding after bytes
   going-start = record { within = omega arith; store = refl; output = refl; place = refl; fits = omega arith; long = refl; went = all-none (goesOn T S time (length out₀) s₀) }
 
-  module _ (s out : List ℕ) (n at : ℕ) (w : Going T S time budget s₀ out₀ s out n at) {next : Next} {z : ℕ} (comes : next ≡ nextOf T S s) (size : z ≡ sizeBy T S next) where
+  module _ (s out : List ℕ) (n at : ℕ) (w : Going T S time budget s₀ out₀ s out n at) {next : Next} (comes : next ≡ nextOf T S s) where
+    -- the bytes that it writes
+    abbrev z : ℕ
+    z = sizeBy T S next
+
     -- what the questions ask, in the run's own terms
     is-another : moves next ≡ another T S time s₀ n
     unfolding another
@@ -56,7 +66,7 @@ module _ (T : List ℕ) (S : Shape) (time budget : ℕ) (s₀ out₀ : List ℕ)
 
     is-room : leb (at + z) (length out) ≡ roomFor T S time (length out₀) s₀ n
     unfolding roomFor
-    is-room = rw (← w .store, ← comes, ← size, ← w .place, w .long)
+    is-room = rw (← w .store, ← comes, ← w .place, w .long)
 
     -- the run goes on
     module _ (go : _≡_ {A = ℕ} 0 (asked next z at (length out) n budget)) where
@@ -82,19 +92,19 @@ module _ (T : List ℕ) (S : Shape) (time budget : ℕ) (s₀ out₀ : List ℕ)
       unfolding after
       moved n = rw (add-one n) refl
 
-      pub going-more : (s′ out′ : List ℕ) → s′ ≡ moveBy T S time next s → out′ ≡ sets out at (writtenBy T S time next s) → Going T S time budget s₀ out₀ s′ out′ (n + 1) (at + z)
+      pub going-more : (s′ out′ : List ℕ) {p : ℕ} → s′ ≡ moveBy T S time next s → out′ ≡ sets out at (writtenBy T S time next s) → p ≡ at + z → Going T S time budget s₀ out₀ s′ out′ (n + 1) p
       unfolding move written
-      going-more s′ out′ p q =
+      going-more s′ out′ p q a =
           let e : writtenBy T S time next s ≡ writtenBy T S time (nextOf T S (after T S time n s₀)) (after T S time n s₀) = rw (← w .store, ← comes) in
           let b : bytes T S time (n + 1) s₀ ≡ bytes T S time n s₀ ++ writtenBy T S time next s = wrote n ∙ ap (λ (x : List ℕ). bytes T S time n s₀ ++ x) (sym e) in
-          let l : length (writtenBy T S time next s) ≡ z = written-length T S time next s ∙ sym size in
+          let l : length (writtenBy T S time next s) ≡ z = written-length T S time next s in
           let r = room-left in
           let g = budget-left in
           record {
             within = omega arith;
             store = rw (moved n, ← w .store, ← comes) p;
             output = rw b (and-then out₀ 0 at (bytes T S time n s₀) (writtenBy T S time next s) (omega (arith, w .place)) (w .output) q);
-            place = rw b (omega (arith, length-append (bytes T S time n s₀) (writtenBy T S time next s), w .place));
+            place = rw (a, b) (omega (arith, length-append (bytes T S time n s₀) (writtenBy T S time next s), w .place));
             fits = omega (arith, w .long);
             long = ap length q ∙ length-sets out at (writtenBy T S time next s) ∙ w .long;
             went = all-more (goesOn T S time (length out₀) s₀) n (w .went) went-on;

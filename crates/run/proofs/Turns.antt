@@ -4,21 +4,26 @@ use mathlib.Core.List.{List}
 use mathlib.Core.Bool.{Bool, true, false}
 use Prim.Native.Nat.{ℕ, _+_, _<_, _≤_}
 use native.Mathlib.Omega.{arith}
+use lib.Dec.{eqb, ltb}
 use lib.ListN.{getD}
+use borrow.Author.Tests.{eqb-true}
+use Rattle.walk.specs.Pick.{both-right}
 use Rattle.walk.specs.Choose.{choose, choose-true, choose-false}
 use Rattle.walk.specs.Count.{countIf}
 use Rattle.walk.specs.First.{Sought, one, missing, first-in}
-use Rattle.frames.specs.Frame.{fieldAt}
+use Rattle.frames.specs.Frame.{flagAt, fieldAt}
 use Rattle.table.specs.declared.Shape.{Shape}
 use Rattle.store.specs.Layout.{outputs, associationFrame}
 use Rattle.store.specs.Word.{putDue, putValue}
 use Rattle.owned.specs.declared.Found.{Found}
 use Rattle.owned.specs.declared.Found.the-variants.{One, Missing}
 use Rattle.owned.specs.Owned.{any, isNth, nth, foundOf, found-one, found-missing}
-use Rattle.fire.specs.Carry.{voice, speaks}
+use Rattle.fire.specs.Partner.{outputOwner}
+use Rattle.fire.specs.Partners.{own-voice}
+use Rattle.fire.specs.Carry.{voice, voiceOf, speaks, Carried}
 use Rattle.fire.specs.Fire.{fire}
 use Rattle.take.specs.Take.{fireFound}
-use Rattle.run.specs.Calls.{dueAt, expired, expire, give}
+use Rattle.run.specs.Calls.{dueAt, expired, expire, give, ofSource}
 
 module _ (T : List ℕ) (S : Shape) (t el : ℕ) (s s′ : List ℕ) where
   pub expire-due : {b : Bool} → b ≡ dueAt s t el → b ≡ true → s′ ≡ expired T S t el s → s′ ≡ expire T S t el s
@@ -50,3 +55,10 @@ module _ (T : List ℕ) (S : Shape) (o : ℕ) (vs : List ℕ) (j : ℕ) (s s′ 
   pub give-none : b ≡ false → s′ ≡ s → s′ ≡ give T S o vs j s
   unfolding give
   give-none q u = rw (choose-false _ _ _ (sym told ∙ q)) u
+
+-- an event output of a source is no interface's
+pub source-carries : (T : List ℕ) (S : Shape) (o : ℕ) (m : List ℕ) → ofSource T S o ≡ true → Carried T S (voice 1 o) m → Carried T S (voiceOf T S o) m
+unfolding ofSource
+source-carries T S o m e h =
+    let k = eqb-true (flagAt T (outputOwner T S o)) 3 (both-right (ltb o (outputs S)) (eqb (flagAt T (outputOwner T S o)) 3) e) in
+    rw (own-voice T S o (λ z. omega arith)) h

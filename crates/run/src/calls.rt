@@ -1,16 +1,19 @@
 // Advance and arrival.
 ghost use mathlib.Core.Path.{_≡_};
-ghost use mathlib.Core.Bool.{Bool};
+ghost use mathlib.Core.Bool.{Bool, true};
 ghost use Prim.Native.Nat.{_<_, _≤_};
 ghost use lib.ListN.{length};
 ghost use Rattle.walk.specs.Walk.{upTo};
 ghost use Rattle.store.specs.Good.{Good};
-ghost use Rattle.store.specs.Layout.{outputs as «outputsOf», associations as «associationsOf»};
+ghost use Rattle.store.specs.Layout.{associations as «associationsOf»};
 ghost use Rattle.store.specs.Word.{nowOf};
+ghost use Rattle.fire.specs.Carry.{voice, Carried};
 ghost use Rattle.run.specs.Calls.{dueAt, expired, expire, advanced, wrongTime, dueBefore, beyondDue, give, arrived, ofSource, associated as «associatedOf»};
+use bits::mark;
 use fire::carry::Voice;
 use fire::carry::speaks;
 use fire::fire;
+use fire::fire_carrying;
 use frames::frame::field;
 use frames::frame::flag;
 use owned::ANY;
@@ -110,32 +113,36 @@ pub fn beyond_due(t: &[u8], store: &[u32], s: Shape, to: u32) -> bool
     false
 }
 
-// The values go into the associated output variables in table order.
-fn give_all(t: &[u8], store: &mut [u32], s: Shape, o: usize, values: &[u32])
+// The values go into the associated output variables in table order; the answer is the set of these variables, which are what the event carries.
+fn give_all(t: &[u8], store: &mut [u32], s: Shape, o: usize, values: &[u32]) -> [u32; 16]
     requires { ⌜ Good (now t) s × (length (now values) ≡ associatedOf (now t) s o) ⌝ }
-    ensures { λ _. ⌜ now (store .exit) ≡ upTo (give (now (t .entry)) s o (now (values .entry))) (associationsOf s) (now (store .entry)) ⌝ }
+    ensures { λ r. ⌜ (now (store .exit) ≡ upTo (give (now (t .entry)) s o (now (values .entry))) (associationsOf s) (now (store .entry))) × Carried (now (t .entry)) s (voice 1 o) r ⌝ }
 {
     let n = associations(s);
     let w = Voice { flag: 1, event: o };
+    let mut m = [0u32; 16];
     let mut k = 0;
     let mut j = 0;
     while j < n {
         if speaks(t, s, w, j) {
-            put_value(store, s, field(t, s.variables + j, 1), values[k]);
+            let v = field(t, s.variables + j, 1);
+            put_value(store, s, v, values[k]);
+            mark(&mut m, v);
             k += 1;
         }
         j += 1;
     }
+    m
 }
 
-// Arrival puts its values into the associated output variables, then fires with the given birth.
+// Arrival puts its values into the associated output variables, then fires with the given birth. A source's event speaks by these associations.
 pub fn arrive(t: &[u8], store: &mut [u32], s: Shape, o: usize, birth: u32, values: &[u32])
-    requires { ⌜ Good (now t) s × (o < outputsOf s) × (length (now values) ≡ associatedOf (now t) s o) ⌝ }
+    requires { ⌜ Good (now t) s × (ofSource (now t) s o ≡ true) × (length (now values) ≡ associatedOf (now t) s o) ⌝ }
     ensures { λ _. ⌜ now (store .exit) ≡ arrived (now (t .entry)) s o birth (now (values .entry)) (now (store .entry)) ⌝ }
 {
     let at = time(store);
-    give_all(t, store, s, o, values);
-    fire(t, store, s, o, birth, at);
+    let m = give_all(t, store, s, o, values);
+    fire_carrying(t, store, s, o, &m, birth, at);
 }
 
 // An event output of a source.

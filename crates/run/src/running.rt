@@ -5,12 +5,12 @@ ghost use lib.ListN.{length};
 ghost use lib.Seq.{sets};
 ghost use Rattle.store.specs.Good.{Good};
 ghost use mathlib.Core.Bool.{not};
-ghost use Rattle.moves.specs.Next.{moves};
+ghost use Rattle.moves.specs.Next.{Ready, moves, sizeBy};
 ghost use Rattle.run.specs.Run.{asked as «askedOf», Done};
 use moves::Next;
+use moves::fits;
 use moves::make;
 use moves::next_move;
-use moves::size;
 use table::Shape;
 
 // What a run tells: the moves made, the bytes written, and why no more were made.
@@ -31,15 +31,15 @@ fn still(next: Next) -> bool
     }
 }
 
-// After n moves, with `at` bytes written: why the run stops here, or 0. The next move writes z bytes.
-fn asked(next: Next, z: usize, at: usize, room: usize, n: u32, budget: u32) -> u32
-    requires { ⌜ at ≤ room ⌝ }
-    ensures { λ r. ⌜ r ≡ askedOf next z at room n budget ⌝ }
+// After n moves, with `at` bytes written: why the run stops here, or 0.
+fn asked(t: &[u8], s: Shape, next: Next, at: usize, room: usize, n: u32, budget: u32) -> u32
+    requires { ⌜ Good (now t) s × Ready s next × (at ≤ room) ⌝ }
+    ensures { λ r. ⌜ r ≡ askedOf next (sizeBy (now (t .entry)) s next) at room n budget ⌝ }
 {
     if still(next) {
         return 1;
     }
-    if room - at < z {
+    if !fits(t, s, next, room - at) {
         return 3;
     }
     if n < budget { 0 } else { 2 }
@@ -61,8 +61,7 @@ pub fn run_moves(
     let mut at: usize = 0;
     loop {
         let next = next_move(t, store, s);
-        let z = size(t, s, next);
-        let stop = asked(next, z, at, out.len(), n, budget);
+        let stop = asked(t, s, next, at, out.len(), n, budget);
         if stop != 0 {
             break Ran {
                 moves: n,
@@ -70,8 +69,7 @@ pub fn run_moves(
                 stop,
             };
         }
-        make(t, store, s, time, next, out, at);
-        at += z;
+        at = make(t, store, s, time, next, out, at);
         n += 1;
     }
 }

@@ -2,16 +2,22 @@
 use mathlib.Core.Path.{_≡_, refl, sym, ap, _∙_}
 use mathlib.Core.List.{List}
 use mathlib.Core.Logic.{⊎-elim}
-use Prim.Native.Nat.{ℕ, _+_, _-_, _≤_, _<_}
+use mathlib.Core.Bool.{Bool, true}
+use Prim.Native.Nat.{ℕ, zero, suc, _+_, _-_, _≤_, _<_}
 use native.Mathlib.Omega.{arith}
-use Rattle.walk.specs.Pick.{tri}
+use native.Mathlib.Numerals.{add-one}
+use lib.Dec.{eqb}
+use borrow.Author.Tests.{eq-eqb, eqb-true}
+use Rattle.walk.specs.Pick.{both-left, both-right, test-cases, tri}
+use Rattle.walk.specs.Count.{countIf, count-none, count-miss, count-mono, count-within}
 use Rattle.frames.specs.Kind.{element, eventInput, eventOutput, variable, association, action, step, eventConnection, dataConnection, none}
 use Rattle.frames.specs.Frame.{kindAt, flagAt, fieldAt, framesOf}
 use Rattle.frames.specs.Place.{countOf, startOf}
+use Rattle.network.specs.Fresh.{sameEvent}
 use Rattle.table.specs.Judge.{shapeOf}
 use Rattle.table.specs.Accepted.{Accepted}
 use Rattle.store.specs.Layout.{inputs, outputs, variables, associations, states, transitions, actions, steps, connections, links}
-use Rattle.store.specs.Good.{Good}
+use Rattle.store.specs.Good.{joins, Good}
 
 module _ (T : List ℕ) (a : Accepted T) where
   -- the number of each kind, by the shape
@@ -25,6 +31,40 @@ module _ (T : List ℕ) (a : Accepted T) where
       let h : flagAt T f ≤ 1 = rw k at w in
       ⊎-elim (λ z. a .input-association f l k (omega arith) .owned .exists)
       (λ c. ⊎-elim (λ e. a .output-association f l k e .owned .exists) (λ g. absurd (omega arith)) c) (tri (flagAt T f) 1)
+
+  -- the event of an association has eight at most
+  module _ (flag event : ℕ) where
+    abbrev p : ℕ → Bool
+    p = joins T (shapeOf T) flag event
+
+    same-event : (i n : ℕ) → i < countOf T association → p i ≡ true → p n ≡ true → sameEvent T (startOf T association + n) (startOf T association + i) ≡ true
+    unfolding sameEvent
+    same-event i n l h k =
+        let f = startOf T association + i in
+        let g = startOf T association + n in
+        rw (
+          eq-eqb (kindAt T f) association (a .found 5 i l .kind),
+          eqb-true (flagAt T f) flag (both-left (eqb (flagAt T f) flag) (eqb (fieldAt T f 0) event) h),
+          eqb-true (flagAt T g) flag (both-left (eqb (flagAt T g) flag) (eqb (fieldAt T g 0) event) k),
+          eqb-true (fieldAt T f 0) event (both-right (eqb (flagAt T f) flag) (eqb (fieldAt T f 0) event) h),
+          eqb-true (fieldAt T g 0) event (both-right (eqb (flagAt T g) flag) (eqb (fieldAt T g 0) event) k),
+          eq-eqb flag flag refl,
+        )
+        (eq-eqb event event refl)
+
+    eight-at-most : (n : ℕ) → n ≤ countOf T association → countIf p n ≤ 8
+    eight-at-most zero l = rw (count-none p) (omega arith)
+    eight-at-most (suc n) l =
+        rw (← add-one n)
+        (⊎-elim
+        (λ e.
+        let w = a .found 5 n (omega arith) in
+        let q = sameEvent T (startOf T association + n) in
+        let x = count-within p q (startOf T association) (n + 1) (λ i b h. same-event i n (omega arith) h e) in
+        let y = count-mono q (startOf T association + (n + 1)) (framesOf T) (let z = w .in-table in omega arith) in
+        let z = a .eight (startOf T association + n) (w .in-table) (w .kind) in
+        omega arith)
+        (λ e. rw (count-miss p n e) (eight-at-most n (omega arith))) (test-cases (p n)))
 
   pub good : Good T (shapeOf T)
   unfolding inputs outputs variables associations states transitions actions steps connections links
@@ -50,6 +90,18 @@ module _ (T : List ℕ) (a : Accepted T) where
         output-element = λ o l. let w = a .found 3 o (omega (arith, a .next 3)) in let h = a .event-output _ (w .in-table) (w .kind) in omega (arith, elements-many);
         variable-element = λ v l. let w = a .found 4 v (omega (arith, a .next 4)) in let h = a .variable-of _ (w .in-table) (w .kind) in omega (arith, elements-many);
         association-variable = λ j l. let w = a .found 5 j (omega (arith, a .next 5)) in let h = associated _ (w .in-table) (w .kind) in omega (arith, a .next 4);
+        association-input =
+            λ j l e.
+            let w = a .found 5 j (omega (arith, a .next 5)) in
+            let h = a .input-association _ (w .in-table) (w .kind) e in
+            rw (a .at variable (fieldAt T (startOf T association + j) 1) (h .owned .exists)) at (h .flag);
+        association-once =
+            λ i j l m e p q.
+            let v = a .found 5 i (omega (arith, a .next 5)) in
+            let w = a .found 5 j (omega (arith, a .next 5)) in
+            let h = a .association-pairs _ _ (v .in-table) (w .in-table) (v .kind) (w .kind) e p q in
+            omega arith;
+        eight = λ flag event. let e : startOf T 6 - startOf T 5 ≡ countOf T association = omega (arith, a .next 5) in rw e (eight-at-most flag event (countOf T association) (omega arith));
         action-steps =
             λ j k l h.
             let w = a .found 8 j (omega (arith, a .next 8)) in

@@ -3,10 +3,18 @@ use mathlib.Core.Path.{_≡_}
 use mathlib.Core.List.{List}
 use Prim.Native.Nat.{ℕ, _+_, _≤_, _<_}
 use native.Mathlib.Omega.{arith}
+use mathlib.Core.Bool.{Bool}
+use lib.Dec.{eqb}
+use Rattle.walk.specs.Pick.{both}
+use Rattle.walk.specs.Count.{countIf}
 use Rattle.frames.specs.Kind.{none}
-use Rattle.frames.specs.Frame.{framesOf, fieldAt}
+use Rattle.frames.specs.Frame.{framesOf, flagAt, fieldAt}
 use Rattle.table.specs.declared.Shape.{Shape}
 use Rattle.store.specs.Layout.{inputs, outputs, variables, associations, states, transitions, actions, steps, connections, links, inputFrame, outputFrame, variableFrame, associationFrame, actionFrame, stepFrame, connectionFrame, linkFrame, Small}
+
+-- association j has this flag and this event
+abbrev pub joins : List ℕ → Shape → ℕ → ℕ → ℕ → Bool
+joins T S flag event j = both (eqb (flagAt T (associationFrame S j)) flag) (eqb (fieldAt T (associationFrame S j) 0) event)
 
 pub record Good (T : List ℕ) (S : Shape) : Type 0 where
   -- how many there are
@@ -32,6 +40,11 @@ pub record Good (T : List ℕ) (S : Shape) : Type 0 where
   pub output-element : (o : ℕ) → o < outputs S → fieldAt T (outputFrame S o) 0 < S .elements
   pub variable-element : (v : ℕ) → v < variables S → fieldAt T (variableFrame S v) 0 < S .elements
   pub association-variable : (a : ℕ) → a < associations S → fieldAt T (associationFrame S a) 1 < variables S
+  -- an event's associations: its input associations join input variables, none joins a variable twice, and there are eight at most
+  pub association-input : (a : ℕ) → a < associations S → flagAt T (associationFrame S a) ≡ 0 → flagAt T (variableFrame S (fieldAt T (associationFrame S a) 1)) ≡ 0
+  pub association-once : (a b : ℕ) → a < associations S → b < associations S → flagAt T (associationFrame S a) ≡ flagAt T (associationFrame S b)
+      → fieldAt T (associationFrame S a) 0 ≡ fieldAt T (associationFrame S b) 0 → fieldAt T (associationFrame S a) 1 ≡ fieldAt T (associationFrame S b) 1 → a ≡ b
+  pub eight : (flag event : ℕ) → countIf (joins T S flag event) (associations S) ≤ 8
   pub action-steps : (j k : ℕ) → j < actions S → k < fieldAt T (actionFrame S j) 2 → fieldAt T (actionFrame S j) 1 + k < steps S
   pub action-event : (j : ℕ) → j < actions S → (fieldAt T (actionFrame S j) 3 ≡ none → ⊥) → fieldAt T (actionFrame S j) 3 < outputs S
   pub step-result : (j : ℕ) → j < steps S → fieldAt T (stepFrame S j) 0 < variables S

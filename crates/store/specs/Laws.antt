@@ -1,13 +1,15 @@
 -- Laws of the words: what a writer leaves to the readers of other words. A change of the layout is felt here and nowhere above.
-use mathlib.Core.Path.{_≡_, _∙_}
+use mathlib.Core.Path.{_≡_, sym, _∙_}
 use mathlib.Core.List.{List}
 use Prim.Native.Nat.{ℕ, _+_, _≤_, _<_}
 use native.Mathlib.Omega.{arith}
-use lib.ListN.{getD, set}
-use lib.Seq.{getD-set-other}
+use mathlib.Core.Logic.{⊎-elim}
+use lib.ListN.{length, getD, set, List·getD-eq-default}
+use lib.Seq.{set-comm, set-out, getD-set-same, getD-set-other}
+use Rattle.walk.specs.Pick.{tri}
 use Rattle.table.specs.declared.Shape.{Shape}
 use Rattle.store.specs.Layout.{inputs, inputAt, variableAt}
-use Rattle.store.specs.Word.{putOverwritten, putInput, value, buffer, putBuffer}
+use Rattle.store.specs.Word.{putOverwritten, putInput, value, putValue, buffer, putBuffer}
 
 -- the words of the variables lie past all others
 module _ (S : Shape) (p : ℕ) (past : variableAt S 0 ≤ p) where
@@ -44,6 +46,10 @@ module _ (S : Shape) where
   unfolding buffer
   buffer-putInput s i flag birth last u l = past-putInput S (variableAt S u + 1) (buffer-past u) s i flag birth last l
 
+  pub buffer-putValue : (s : List ℕ) (v u x : ℕ) → buffer S (putValue S v x s) u ≡ buffer S s u
+  unfolding buffer putValue variableAt
+  buffer-putValue s v u x = getD-set-other s (variableAt S v) (variableAt S u + 1) x 0 (λ e. omega arith)
+
   -- ---- the value of a variable
   pub value-putBuffer : (s : List ℕ) (v u x : ℕ) → value S (putBuffer S v x s) u ≡ value S s u
   unfolding value putBuffer variableAt
@@ -56,3 +62,23 @@ module _ (S : Shape) where
   pub value-putInput : (s : List ℕ) (i flag birth last u : ℕ) → i < inputs S → value S (putInput S i flag birth last s) u ≡ value S s u
   unfolding value
   value-putInput s i flag birth last u l = past-putInput S (variableAt S u) (value-past u) s i flag birth last l
+
+  pub value-putValue : (s : List ℕ) (v u x : ℕ) → (u ≡ v → ⊥) → value S (putValue S v x s) u ≡ value S s u
+  unfolding value putValue variableAt
+  value-putValue s v u x h = getD-set-other s (variableAt S v) (variableAt S u) x 0 (λ e. h (omega arith))
+
+  pub putValue-swap : (s : List ℕ) (v u x y : ℕ) → (v ≡ u → ⊥) → putValue S u y (putValue S v x s) ≡ putValue S v x (putValue S u y s)
+  unfolding putValue variableAt
+  putValue-swap s v u x y h = set-comm s (variableAt S v) (variableAt S u) x y (λ e. h (omega arith))
+
+  -- a variable that gets value from buffer has it, also where the store is too short for both
+  pub value-sampled : (s : List ℕ) (v : ℕ) → value S (putValue S v (buffer S s v) s) v ≡ buffer S s v
+  unfolding value putValue buffer
+  value-sampled s v =
+      ⊎-elim (λ l. getD-set-same s (variableAt S v) (getD s (variableAt S v + 1) 0) 0 l)
+      (λ w. past (⊎-elim (λ e. omega arith) (λ g. omega arith) w)) (tri (variableAt S v) (length s))
+    where
+      past : length s ≤ variableAt S v → getD (set s (variableAt S v) (getD s (variableAt S v + 1) 0)) (variableAt S v) 0 ≡ getD s (variableAt S v + 1) 0
+      past l =
+          rw (set-out s (variableAt S v) (getD s (variableAt S v + 1) 0) l)
+          (List·getD-eq-default s 0 {n = variableAt S v} l ∙ sym (List·getD-eq-default s 0 {n = variableAt S v + 1} (omega arith)))

@@ -1,24 +1,31 @@
 -- What each way through a take leaves, over plain variables.
-use mathlib.Core.Path.{_≡_, refl, sym, ap, _∙_}
+use mathlib.Core.Path.{_≡_, refl, sym, _∙_}
 use mathlib.Core.List.{List}
 use mathlib.Core.Bool.{Bool, true, false}
-use Prim.Native.Nat.{ℕ, _+_, _<_, _≤_}
+use Prim.Native.Nat.{ℕ, _+_, _<_}
 use native.Mathlib.Omega.{arith}
 use borrow.Author.Tests.{eq-eqb, ne-eqb}
 use Rattle.walk.specs.Choose.{choose, choose-true, choose-false}
-use Rattle.walk.specs.First.{Sought, one, missing, first-in}
+use Rattle.walk.specs.Walk.{upTo, upTo-end}
+use Rattle.walk.specs.First.{first-in}
 use Rattle.number.specs.Word.{signed, ticksOf}
-use Rattle.frames.specs.Frame.{fieldAt}
+use Rattle.frames.specs.Kind.{none}
+use Rattle.frames.specs.Frame.{flagAt, fieldAt}
 use Rattle.table.specs.declared.Shape.{Shape}
-use Rattle.store.specs.Layout.{variables, outputs, associationFrame}
+use Rattle.store.specs.Good.{Good}
+use Rattle.store.specs.Laws.{value-sampled}
+use Rattle.store.specs.Layout.{inputs, variables, associations, associationFrame}
 use Rattle.store.specs.Word.{value, putValue, buffer, putDue}
 use Rattle.owned.specs.declared.Found.{Found}
 use Rattle.owned.specs.declared.Found.the-variants.{One, Missing}
 use Rattle.owned.specs.Owned.{any, rank, nth, isNth, foundOf, found-one, found-missing}
-use Rattle.fire.specs.Partner.{partnerOutput, partnerVariable}
-use Rattle.fire.specs.Carry.{voice, speaks}
+use Rattle.fire.specs.Partner.{inputOwner, partnerOutput, partnerVariable}
+use Rattle.fire.specs.Partners.{partner-voice}
+use Rattle.fire.specs.Carry.{voice, speaks, orNone, carriedBy, voiceOf, Carried}
+use Rattle.fire.specs.Carrying.{carried-none, carried-partner}
 use Rattle.fire.specs.Fire.{fire}
-use Rattle.take.specs.Take.{sample, passTo, pass, passes, fireFound, relay, ticksIn, dtOf, isStart, delay}
+use Rattle.take.specs.Together.{passed-together}
+use Rattle.take.specs.Take.{sample, samples, passTo, pass, passes, fireFound, relay, ticksIn, dtOf, isStart, delay}
 
 -- what a search among n frames found is one of them
 pub nth-in : (T : List ℕ) (first n g x k j : ℕ) {r : Found} → r ≡ foundOf (nth T first n g x k) → r ≡ One j → j < n
@@ -33,31 +40,44 @@ module _ (T : List ℕ) (S : Shape) (i j : ℕ) (s s′ : List ℕ) where
   unfolding sample
   sample-skip p q u = rw (choose-false _ _ _ (sym p ∙ q)) u
 
-  pub pass-take : {b : Bool} {v : ℕ} → b ≡ speaks T S (voice 0 i) j → b ≡ true → v ≡ fieldAt T (associationFrame S j) 1 → s′ ≡ passTo S (partnerVariable T S v) v s → s′ ≡ pass T S i j s
-  unfolding pass
-  pass-take p q r u = rw (choose-true _ _ _ (sym p ∙ q), ← r) u
-
-  pub pass-skip : {b : Bool} → b ≡ speaks T S (voice 0 i) j → b ≡ false → s′ ≡ s → s′ ≡ pass T S i j s
-  unfolding pass
-  pass-skip p q u = rw (choose-false _ _ _ (sym p ∙ q)) u
-
 module _ (T : List ℕ) (S : Shape) (v : ℕ) (s s′ : List ℕ) {r : Found} where
-  pub pass-none : r ≡ foundOf (partnerVariable T S v) → r ≡ Missing → s′ ≡ s → s′ ≡ passTo S (partnerVariable T S v) v s
+  pub pass-none : r ≡ foundOf (partnerVariable T S v) → r ≡ Missing → s′ ≡ s → (s′ ≡ passTo S (partnerVariable T S v) v s) × (none ≡ orNone (partnerVariable T S v))
   unfolding passTo
-  pass-none p m u = rw (found-missing (partnerVariable T S v) _ p m) u
+  pass-none p m u = rw (found-missing (partnerVariable T S v) _ p m) (u, refl)
 
-  pub pass-one : (u : ℕ) {x : ℕ} → r ≡ foundOf (partnerVariable T S v) → r ≡ One u → x ≡ value S s v → s′ ≡ putValue S u x s → s′ ≡ passTo S (partnerVariable T S v) v s
+  pub pass-one : (u : ℕ) {x : ℕ} → r ≡ foundOf (partnerVariable T S v) → r ≡ One u → x ≡ value S s v → s′ ≡ putValue S u x s
+      → (s′ ≡ passTo S (partnerVariable T S v) v s) × (u ≡ orNone (partnerVariable T S v))
   unfolding passTo
-  pass-one u p m a e = rw (found-one (partnerVariable T S v) _ u p m, ← a) e
+  pass-one u p m a e = rw (found-one (partnerVariable T S v) _ u p m, ← a) (e, refl)
+
+-- the value that is passed on is the one just sampled
+pub value-now : (S : Shape) (v : ℕ) (s s₁ : List ℕ) {x : ℕ} → x ≡ buffer S s v → s₁ ≡ putValue S v x s → x ≡ value S s₁ v
+value-now S v s s₁ e u = e ∙ rw (u, e) (sym (value-sampled S s v))
+
+module _ (T : List ℕ) (S : Shape) (i j : ℕ) {b : Bool} (told : b ≡ speaks T S (voice 0 i) j) where
+  pub on-none : (s : List ℕ) → b ≡ false → (s ≡ pass T S i j (sample T S i j s)) × (none ≡ carriedBy T S (voice 0 i) j)
+  unfolding pass sample choose
+  on-none s q = (rw (sym told ∙ q), carried-none T S (voice 0 i) j (sym told ∙ q))
+
+  pub on-one : (s s₁ s′ : List ℕ) {v x r : ℕ} → b ≡ true → v ≡ fieldAt T (associationFrame S j) 1 → x ≡ buffer S s v → s₁ ≡ putValue S v x s
+      → (s′ ≡ passTo S (partnerVariable T S v) v s₁) × (r ≡ orNone (partnerVariable T S v)) → (s′ ≡ pass T S i j (sample T S i j s)) × (r ≡ carriedBy T S (voice 0 i) j)
+  unfolding pass sample choose
+  on-one s s₁ s′ q a e u w = (rw (sym told ∙ q, ← a, ← e, ← u) (w .0), w .1 ∙ rw a (carried-partner T S i j (sym told ∙ q)))
+
+-- the walk of both is what the definition makes of the samples
+pub passed-end : (T : List ℕ) (S : Shape) (i j : ℕ) (s₀ s : List ℕ) → Good T S → s ≡ upTo (λ (k : ℕ) (x : List ℕ). pass T S i k (sample T S i k x)) j s₀ → j ≡ associations S
+    → s ≡ passes T S i (samples T S i s₀)
+passed-end T S i j s₀ s g p e = upTo-end _ j (associations S) s₀ s p e ∙ passed-together T S i g s₀
 
 -- a partner that was found is one of the table's
 pub partner-in : (T : List ℕ) (S : Shape) (v u : ℕ) {r : Found} → r ≡ foundOf (partnerVariable T S v) → r ≡ One u → u < variables S
 unfolding partnerVariable
 partner-in T S v u p m = nth-in T _ (variables S) _ _ _ u p m
 
-pub output-in : (T : List ℕ) (S : Shape) (i o : ℕ) {r : Found} → r ≡ foundOf (partnerOutput T S i) → r ≡ One o → o < outputs S
-unfolding partnerOutput
-output-in T S i o p m = nth-in T _ (outputs S) _ _ _ o p m
+-- the partner event speaks by event input i, so the set of what was passed to is the set of what it carries
+pub relay-carries : (T : List ℕ) (S : Shape) (i o : ℕ) (m : List ℕ) {r : Found} → i < inputs S → flagAt T (inputOwner T S i) ≡ 1 → r ≡ foundOf (partnerOutput T S i) → r ≡ One o
+    → Carried T S (voice 0 i) m → Carried T S (voiceOf T S o) m
+relay-carries T S i o m l e p q h = rw (partner-voice T S i o l (found-one (partnerOutput T S i) _ o p q) e) h
 
 module _ (T : List ℕ) (S : Shape) (i birth time : ℕ) (s s₁ s′ : List ℕ) {r : Found} where
   pub relay-none : s₁ ≡ passes T S i s → r ≡ foundOf (partnerOutput T S i) → r ≡ Missing → s′ ≡ s₁ → s′ ≡ relay T S i birth time s

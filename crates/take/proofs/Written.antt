@@ -15,7 +15,7 @@ use Rattle.number.specs.Sets.{and-then}
 use Rattle.number.specs.Bytes.{halfBytes, wordBytes, length-half, length-word}
 use Rattle.frames.specs.Frame.{fieldAt}
 use Rattle.table.specs.declared.Shape.{Shape}
-use Rattle.store.specs.Layout.{associationFrame}
+use Rattle.store.specs.Layout.{associations, associationFrame}
 use Rattle.store.specs.Word.{value}
 use Rattle.fire.specs.Carry.{voice, speaks}
 use Rattle.take.specs.Record.{head, valueOf}
@@ -69,9 +69,13 @@ module _ (T : List ℕ) (S : Shape) (s : List ℕ) (i : ℕ) where
         let m = count-past (speaks T S (voice 0 i)) j n l (sym told ∙ q) in
         omega arith
 
+-- the place after the last value
+pub values-end : (T : List ℕ) (S : Shape) (s : List ℕ) (i at j : ℕ) {p : ℕ} → p ≡ at + length (upTo (valueOf T S s i) j []) → j ≡ associations S
+    → p ≡ at + 4 * countIf (speaks T S (voice 0 i)) (associations S)
+values-end T S s i at j e q = e ∙ ap (λ (n : ℕ). at + n) (values-length T S s i j ∙ ap (λ (n : ℕ). 4 * countIf (speaks T S (voice 0 i)) n) q)
+
 -- the head and then the values make the record
-pub record-written : (l l₁ l₂ : List ℕ) (at i birth last time : ℕ) (vs : List ℕ) {el el′ : ℕ} → el ≡ el′ → l₁ ≡ sets l at (head el i birth last time) → l₂ ≡ sets l₁ (at + 16) vs
-    → l₂ ≡ sets l at (head el′ i birth last time ++ vs)
-record-written l l₁ l₂ at i birth last time vs {el} {el′} e p q =
-    let h : at + 16 ≡ at + length (head el i birth last time) = ap (λ (n : ℕ). at + n) (sym (head-length el i birth last time)) in
-    rw (← e) (and-then l at (at + 16) (head el i birth last time) vs h p q)
+pub record-written : (l l₁ l₂ : List ℕ) (at el i birth last time : ℕ) (vs : List ℕ) → l₁ ≡ sets l at (head el i birth last time) → l₂ ≡ sets l₁ (at + 16) vs
+    → l₂ ≡ sets l at (head el i birth last time ++ vs)
+record-written l l₁ l₂ at el i birth last time vs p q =
+    and-then l at (at + 16) (head el i birth last time) vs (ap (λ (n : ℕ). at + n) (sym (head-length el i birth last time))) p q

@@ -1,4 +1,5 @@
 pub mod Take
+pub mod Together
 pub mod Record
 pub mod Sizes
 pub mod Joined

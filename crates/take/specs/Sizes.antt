@@ -1,8 +1,8 @@
--- A record is as long as its size says.
+-- A record is as long as its size says, and how long it can be.
 use mathlib.Core.Path.{_≡_, refl, sym, ap, _∙_}
 use mathlib.Core.List.{List, [], _++_}
 use mathlib.Core.Bool.{Bool, true, false}
-use Prim.Native.Nat.{ℕ, zero, suc, _+_, _*_}
+use Prim.Native.Nat.{ℕ, zero, suc, _+_, _*_, _≤_}
 use native.Mathlib.Omega.{arith}
 use lib.ListN.{length, length-append}
 use Rattle.walk.specs.Pick.{pick}
@@ -14,6 +14,7 @@ use Rattle.frames.specs.Frame.{fieldAt}
 use Rattle.table.specs.declared.Shape.{Shape}
 use Rattle.store.specs.Layout.{associations, associationFrame}
 use Rattle.store.specs.Word.{value}
+use Rattle.store.specs.Good.{Good}
 use Rattle.fire.specs.Carry.{voice, speaks}
 use Rattle.take.specs.Record.{head, valueOf, values, recordOf, recordSize}
 
@@ -37,3 +38,8 @@ module _ (T : List ℕ) (S : Shape) (s : List ℕ) (i : ℕ) where
 pub record-length : (T : List ℕ) (S : Shape) (i time : ℕ) (s : List ℕ) → length (recordOf T S i time s) ≡ recordSize T S i
 unfolding recordOf recordSize values
 record-length T S i time s = simp (length-append, head-length, values-length) refl
+
+-- a record has its head and eight values at most
+pub record-most : (T : List ℕ) (S : Shape) (i : ℕ) → Good T S → recordSize T S i ≤ 48
+unfolding recordSize speaks
+record-most T S i g = let h = g .eight 0 i in omega arith

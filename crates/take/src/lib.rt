@@ -3,19 +3,24 @@ ghost use mathlib.Core.Path.{_≡_};
 ghost use mathlib.Core.Bool.{Bool};
 ghost use Prim.Native.Nat.{_<_, _≤_};
 ghost use Rattle.number.specs.Bounded.{Bounded};
+ghost use Rattle.frames.specs.Frame.{flagAt};
 ghost use Rattle.store.specs.Good.{Good};
-ghost use Rattle.store.specs.Layout.{inputs, variables};
-ghost use Rattle.fire.specs.Partner.{partnerVariable};
-ghost use Rattle.take.specs.Take.{passTo, samples, sampled as «sampledOf», passes, relay as «relayOf», dtOf, isStart, delay as «delayOf», wake as «wakeOf», receive as «receiveOf»};
+ghost use Rattle.store.specs.Layout.{inputs, variables, associations as «associationsOf», Small};
+ghost use Rattle.store.specs.Word.{value, putValue, buffer};
+ghost use Rattle.fire.specs.Partner.{inputOwner, partnerVariable};
+ghost use Rattle.fire.specs.Carry.{voice, orNone, carriedBy, Carried};
+ghost use Rattle.take.specs.Take.{sample as «sampleAt», samples, passTo, pass as «passAt», passes, relay as «relayOf», dtOf, isStart, delay as «delayOf», wake as «wakeOf», receive as «receiveOf»};
 
 pub mod record;
 
+use bits::mark;
 use fire::carry::Voice;
 use fire::carry::speaks;
-use fire::fire;
+use fire::fire_carrying;
 use fire::partner::partner_output;
 use fire::partner::partner_variable;
 use frames::frame::field;
+use frames::kind::NONE;
 use number::word::ticks;
 use owned::ANY;
 use owned::Found;
@@ -26,12 +31,21 @@ use store::shape::associations;
 use store::shape::variables as variables_of;
 use store::word::buffer_of;
 use store::word::put_due;
-use store::word::put_input;
 use store::word::put_owner;
 use store::word::put_running;
 use store::word::put_value;
 use store::word::value_of;
 use table::Shape;
+
+// Input variable v gets value from buffer; the answer is that value.
+pub fn sample(store: &mut [u32], s: Shape, v: usize) -> u32
+    requires { ⌜ Small s × (v < 65536) ⌝ }
+    ensures { λ r. ⌜ (r ≡ buffer s (now (store .entry)) v) × (now (store .exit) ≡ putValue s v r (now (store .entry))) ⌝ }
+{
+    let x = buffer_of(store, s, v);
+    put_value(store, s, v, x);
+    x
+}
 
 // Associated inputs get value from buffer.
 fn sample_all(t: &[u8], store: &mut [u32], s: Shape, i: usize)
@@ -43,61 +57,68 @@ fn sample_all(t: &[u8], store: &mut [u32], s: Shape, i: usize)
     let mut j = 0;
     while j < n {
         if speaks(t, s, w, j) {
-            let v = field(t, s.variables + j, 1);
-            let x = buffer_of(store, s, v);
-            put_value(store, s, v, x);
+            sample(store, s, field(t, s.variables + j, 1));
         }
         j += 1;
     }
 }
 
-// Event input i stops waiting, and its associated inputs are sampled.
-pub fn sample(t: &[u8], store: &mut [u32], s: Shape, i: usize)
-    requires { ⌜ Good (now t) s × (i < inputs s) ⌝ }
-    ensures { λ _. ⌜ now (store .exit) ≡ sampledOf (now (t .entry)) s i (now (store .entry)) ⌝ }
-{
-    put_input(store, s, i, 0, 0, 0);
-    sample_all(t, store, s, i);
-}
-
-// The value of input variable v goes to its partner.
-fn pass(t: &[u8], store: &mut [u32], s: Shape, v: usize)
-    requires { ⌜ Good (now t) s × (v < variables s) ⌝ }
-    ensures { λ _. ⌜ now (store .exit) ≡ passTo s (partnerVariable (now (t .entry)) s v) v (now (store .entry)) ⌝ }
+// x, the value of input variable v, goes to its partner; the answer is the partner, or none.
+fn pass(t: &[u8], store: &mut [u32], s: Shape, v: usize, x: u32) -> usize
+    requires { ⌜ Good (now t) s × (v < variables s) × (x ≡ value s (now store) v) ⌝ }
+    ensures { λ r. ⌜ (now (store .exit) ≡ passTo s (partnerVariable (now (t .entry)) s v) v (now (store .entry))) × (r ≡ orNone (partnerVariable (now (t .entry)) s v)) ⌝ }
 {
     let Found::One(u) = partner_variable(t, s, v) else {
-        return;
+        return NONE;
     };
-    let x = value_of(store, s, v);
     put_value(store, s, u, x);
+    u
 }
 
-// The associated inputs' values go to their partners.
-fn pass_all(t: &[u8], store: &mut [u32], s: Shape, i: usize)
+// Association j, if it is one of event input i: its input gets value from buffer and passes it to its partner.
+// The answer is the variable that it has the partner event carry, or none.
+fn pass_on(t: &[u8], store: &mut [u32], s: Shape, i: usize, j: usize) -> usize
+    requires { ⌜ Good (now t) s × (j < associationsOf s) ⌝ }
+    ensures { λ r. ⌜ (now (store .exit) ≡ passAt (now (t .entry)) s i j (sampleAt (now (t .entry)) s i j (now (store .entry)))) × (r ≡ carriedBy (now (t .entry)) s (voice 0 i) j) ⌝ }
+{
+    if !speaks(t, s, Voice { flag: 0, event: i }, j) {
+        return NONE;
+    }
+    let v = field(t, s.variables + j, 1);
+    let x = sample(store, s, v);
+    pass(t, store, s, v, x)
+}
+
+// Associated inputs get value from buffer and pass it to their partners, all in one walk; the answer is the set of these partners,
+// which are what the partner event carries.
+fn pass_all(t: &[u8], store: &mut [u32], s: Shape, i: usize) -> [u32; 16]
     requires { ⌜ Good (now t) s ⌝ }
-    ensures { λ _. ⌜ now (store .exit) ≡ passes (now (t .entry)) s i (now (store .entry)) ⌝ }
+    ensures { λ r. ⌜ (now (store .exit) ≡ passes (now (t .entry)) s i (samples (now (t .entry)) s i (now (store .entry)))) × Carried (now (t .entry)) s (voice 0 i) r ⌝ }
 {
     let n = associations(s);
-    let w = Voice { flag: 0, event: i };
+    let mut m = [0u32; 16];
     let mut j = 0;
     while j < n {
-        if speaks(t, s, w, j) {
-            pass(t, store, s, field(t, s.variables + j, 1));
+        let v = pass_on(t, store, s, i, j);
+        if v < 512 {
+            mark(&mut m, v);
         }
         j += 1;
     }
+    m
 }
 
-// Interface: values to the partners first, then the partner event is fired with the same birth.
+// Interface: values to the partners first, then the partner event is fired with the same birth. It speaks by event input i itself, so
+// it carries the variables that were passed to.
 fn relay(t: &[u8], store: &mut [u32], s: Shape, i: usize, birth: u32, time: u32)
-    requires { ⌜ Good (now t) s × (i < inputs s) ⌝ }
-    ensures { λ _. ⌜ now (store .exit) ≡ relayOf (now (t .entry)) s i birth time (now (store .entry)) ⌝ }
+    requires { ⌜ Good (now t) s × (i < inputs s) × (flagAt (now t) (inputOwner (now t) s i) ≡ 1) ⌝ }
+    ensures { λ _. ⌜ now (store .exit) ≡ relayOf (now (t .entry)) s i birth time (samples (now (t .entry)) s i (now (store .entry))) ⌝ }
 {
-    pass_all(t, store, s, i);
+    let m = pass_all(t, store, s, i);
     let Found::One(o) = partner_output(t, s, i) else {
         return;
     };
-    fire(t, store, s, o, birth, time);
+    fire_carrying(t, store, s, o, &m, birth, time);
 }
 
 // DT: the delay's one variable, a negative one counts as 0.
@@ -133,7 +154,7 @@ fn wake(store: &mut [u32], el: usize, i: usize, birth: u32)
     put_running(store, Running::awake(birth));
 }
 
-// What the event does at element el, by its sort: 0 basic, 1 interface, 2 delay; at a sink, 4, the record says all.
+// Associated inputs get value from buffer, and the event does its work at element el, by its sort: 0 basic, 1 interface, 2 delay.
 pub fn receive(
     t: &[u8],
     store: &mut [u32],
@@ -144,12 +165,16 @@ pub fn receive(
     birth: u32,
     time: u32,
 )
-    requires { ⌜ Good (now t) s × (i < inputs s) × (el < 65536) × (time < 2147483648) ⌝ }
-    ensures { λ _. ⌜ now (store .exit) ≡ receiveOf sort (now (t .entry)) s el i birth time (now (store .entry)) ⌝ }
+    requires { ⌜ Good (now t) s × (i < inputs s) × (sort ≡ flagAt (now t) (inputOwner (now t) s i)) × (el < 65536) × (time < 2147483648) ⌝ }
+    ensures { λ _. ⌜ now (store .exit) ≡ receiveOf sort (now (t .entry)) s el i birth time (samples (now (t .entry)) s i (now (store .entry))) ⌝ }
 {
+    if sort == 1 {
+        relay(t, store, s, i, birth, time);
+        return;
+    }
+    sample_all(t, store, s, i);
     match sort {
         0 => wake(store, el, i, birth),
-        1 => relay(t, store, s, i, birth, time),
         2 => delay(t, store, s, el, i, time),
         _ => {}
     }

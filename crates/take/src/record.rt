@@ -8,15 +8,15 @@ ghost use Rattle.store.specs.Good.{Good};
 ghost use Rattle.store.specs.Layout.{inputs, associations as «associationsOf»};
 ghost use Rattle.walk.specs.Count.{countIf};
 ghost use Rattle.fire.specs.Carry.{voice, speaks as «speaksAt»};
-ghost use Rattle.fire.specs.Partner.{inputOwner};
+ghost use Rattle.take.specs.Take.{samples};
 ghost use Rattle.take.specs.Record.{head as «headOf», values as «valuesOf», recordSize};
+use crate::sample;
 use fire::carry::Voice;
 use fire::carry::speaks;
 use frames::frame::field;
 use number::bytes::put_half;
 use number::bytes::put_word;
 use store::shape::associations;
-use store::word::value_of;
 use table::Shape;
 
 // How many associations speak for an event.
@@ -56,10 +56,10 @@ fn write_head(out: &mut [u8], at: usize, el: u16, i: u16, birth: u32, last: u32,
     put_word(out, at + 12, time);
 }
 
-// The values associated with event input i, from `at` on.
-fn write_values(t: &[u8], store: &[u32], s: Shape, i: usize, out: &mut [u8], at: usize)
+// Associated inputs get value from buffer, and each value goes to the output as it is sampled, from `at` on; the answer is the place after them.
+fn sample_into(t: &[u8], store: &mut [u32], s: Shape, i: usize, out: &mut [u8], at: usize) -> usize
     requires { ⌜ Good (now t) s × (at + 4 * countIf (speaksAt (now t) s (voice 0 i)) (associationsOf s) ≤ length (now out)) ⌝ }
-    ensures { λ _. ⌜ now (out .exit) ≡ sets (now (out .entry)) at (valuesOf (now (t .entry)) s (now (store .entry)) i) ⌝ }
+    ensures { λ r. ⌜ (now (store .exit) ≡ samples (now (t .entry)) s i (now (store .entry))) × (now (out .exit) ≡ sets (now (out .entry)) at (valuesOf (now (t .entry)) s (samples (now (t .entry)) s i (now (store .entry))) i)) × (r ≡ at + 4 * countIf (speaksAt (now (t .entry)) s (voice 0 i)) (associationsOf s)) ⌝ }
 {
     let n = associations(s);
     let w = Voice { flag: 0, event: i };
@@ -67,29 +67,31 @@ fn write_values(t: &[u8], store: &[u32], s: Shape, i: usize, out: &mut [u8], at:
     let mut j = 0;
     while j < n {
         if speaks(t, s, w, j) {
-            put_word(out, p, value_of(store, s, field(t, s.variables + j, 1)));
+            let x = sample(store, s, field(t, s.variables + j, 1));
+            put_word(out, p, x);
             p += 4;
         }
         j += 1;
     }
+    p
 }
 
-// The record of event input i, whose inputs are sampled in the store, at `at`.
+// Sink: the inputs of event input i are sampled, and its record is written at `at`; the answer is the place after it.
 pub fn write_record(
     t: &[u8],
-    store: &[u32],
+    store: &mut [u32],
     s: Shape,
+    el: usize,
     i: usize,
     birth: u32,
     last: u32,
     time: u32,
     out: &mut [u8],
     at: usize,
-)
-    requires { ⌜ Good (now t) s × (i < inputs s) × (at + recordSize (now t) s i ≤ length (now out)) ⌝ }
-    ensures { λ _. ⌜ now (out .exit) ≡ sets (now (out .entry)) at (headOf (inputOwner (now (t .entry)) s i) i birth last time ++ valuesOf (now (t .entry)) s (now (store .entry)) i) ⌝ }
+) -> usize
+    requires { ⌜ Good (now t) s × (el < 65536) × (i < inputs s) × (at + recordSize (now t) s i ≤ length (now out)) ⌝ }
+    ensures { λ r. ⌜ (now (store .exit) ≡ samples (now (t .entry)) s i (now (store .entry))) × (now (out .exit) ≡ sets (now (out .entry)) at (headOf el i birth last time ++ valuesOf (now (t .entry)) s (samples (now (t .entry)) s i (now (store .entry))) i)) × (r ≡ at + recordSize (now (t .entry)) s i) ⌝ }
 {
-    let el = field(t, s.elements + i, 0);
     write_head(out, at, el as u16, i as u16, birth, last, time);
-    write_values(t, store, s, i, out, at + 16);
+    sample_into(t, store, s, i, out, at + 16)
 }

@@ -6,7 +6,7 @@ use Prim.Native.Nat.{ℕ, zero, suc, _+_, _≤_, _<_}
 use native.Mathlib.Nat.{eq-or-lt-of-le, le-of-suc-le-suc, not-suc-le-zero}
 use native.Mathlib.Omega.{arith}
 use native.Mathlib.Numerals.{add-one}
-use Rattle.walk.specs.Pick.{pick, by-test}
+use Rattle.walk.specs.Pick.{pick, by-test, test-cases}
 
 unfoldable pub countIf : (ℕ → Bool) → ℕ → ℕ
 countIf p zero = 0
@@ -69,3 +69,14 @@ pub count-same : (p q : ℕ → Bool) (n : ℕ) → ((i : ℕ) → i < n → p i
 unfolding countIf
 count-same p q zero h = refl
 count-same p q (suc n) h = rw (count-same p q n (λ i l. h i (omega arith)), h n (omega arith))
+
+-- what passes in a stretch is at most what passes up to its end
+pub count-within : (p q : ℕ → Bool) (first n : ℕ) → ((i : ℕ) → i < n → p i ≡ true → q (first + i) ≡ true) → countIf p n ≤ countIf q (first + n)
+count-within p q first zero h = rw (count-none p) (omega arith)
+count-within p q first (suc n) h =
+    let l = count-within p q first n (λ i a. h i (omega arith)) in
+    let m = count-mono q (first + n) (first + (n + 1)) (omega arith) in
+    rw (← add-one n)
+    (⊎-elim
+    (λ e. let a = count-hit p n e in let b = count-past q (first + n) (first + (n + 1)) (omega arith) (h n (omega arith) e) in omega arith)
+    (λ e. let a = count-miss p n e in omega arith) (test-cases (p n)))

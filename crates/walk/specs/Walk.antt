@@ -40,3 +40,17 @@ module _ {ℓ} {A : Type ℓ} where
   -- what each step keeps, the walk keeps
   pub upTo-keeps {ℓ'} : (P : A → Type ℓ') (f : ℕ → A → A) (n : ℕ) (s : A) → ((j : ℕ) → j < n → (x : A) → P x → P (f j x)) → P s → P (upTo f n s)
   upTo-keeps P f n s h p = upTo-carries (λ (j : ℕ) (x : A). P x) f n s h p
+
+  -- a step that can change places with each step of a walk can be made before it
+  pub upTo-past : (h : A → A) (g : ℕ → A → A) (n : ℕ) (s : A) → ((k : ℕ) → k < n → (x : A) → h (g k x) ≡ g k (h x)) → h (upTo g n s) ≡ upTo g n (h s)
+  unfolding upTo
+  upTo-past h g zero s c = refl
+  upTo-past h g (suc n) s c = c n (omega arith) (upTo g n s) ∙ ap (g n) (upTo-past h g n s (λ k l x. c k (omega arith) x))
+
+  -- one walk with both steps at each number is the first walk and then the second, where each step of the first can change places with the earlier steps of the second
+  pub upTo-both : (f g : ℕ → A → A) (n : ℕ) (s : A) → ((j k : ℕ) → j < n → k < j → (x : A) → f j (g k x) ≡ g k (f j x)) → upTo (λ (j : ℕ) (x : A). g j (f j x)) n s ≡ upTo g n (upTo f n s)
+  unfolding upTo
+  upTo-both f g zero s c = refl
+  upTo-both f g (suc n) s c =
+      ap (g n)
+      (ap (f n) (upTo-both f g n s (λ j k l m x. c j k (omega arith) m x)) ∙ upTo-past (f n) g n (upTo f n s) (λ k l x. c n k (omega arith) l x))

@@ -7,19 +7,17 @@ use native.Mathlib.Omega.{arith}
 use lib.Dec.{eqb, ltb, leb}
 use lib.ListN.{length}
 use lib.Seq.{sets}
-use borrow.Author.Tests.{eq-eqb, ne-eqb, lt-ltb, le-ltb, leb-true, ltb-true, eqb-true}
+use borrow.Author.Tests.{eq-eqb, ne-eqb, lt-ltb, le-ltb, leb-true, eqb-true}
 use Rattle.walk.specs.Pick.{pick, both, both-left}
 use Rattle.walk.specs.All.{allTo}
 use Rattle.walk.specs.Choose.{choose, choose-true, choose-false}
-use Rattle.frames.specs.Frame.{flagAt}
-use Rattle.fire.specs.Partner.{outputOwner}
 use Rattle.table.specs.declared.Shape.{Shape}
 use Rattle.table.specs.declared.Judged.{Judged}
 use Rattle.table.specs.declared.Judged.the-variants.{Sound, Refused as «Faulty»}
 use Rattle.table.specs.Judge.{Verdict, accepted, refused, judge, judged, shapeOf}
 use Rattle.table.specs.Verdicts.{was-sound, was-refused}
 use Rattle.table.specs.Acceptance.{accepted-means}
-use Rattle.store.specs.Layout.{need, outputs}
+use Rattle.store.specs.Layout.{need}
 use Rattle.store.specs.Word.{nowOf, runningOf, spares}
 use Rattle.store.specs.Good.{Good}
 use Rattle.store.specs.Accepted.{good}
@@ -90,17 +88,13 @@ store-now T S s e = by (ltb (length s) (need S)) (wellFormed T S s) refl e
     by false true h z = let w = formed-now T S s h in omega arith
     by false false h z = absurd (omega arith)
 
--- an arrival that is not refused names one of the table's event outputs and has its number of values
-source-in : (T : List ℕ) (S : Shape) (o : ℕ) → ofSource T S o ≡ true → o < outputs S
-unfolding ofSource
-source-in T S o e = ltb-true _ _ (both-left (ltb o (outputs S)) (eqb (flagAt T (outputOwner T S o)) 3) e)
-
-pub event-known : (T : List ℕ) (S : Shape) (s : List ℕ) (o birth : ℕ) (vs : List ℕ) → eventRefusal T S s o birth vs ≡ 0 → (o < outputs S) × (length vs ≡ associated T S o)
+-- an arrival that is not refused names an event output of a source and has its number of values
+pub event-known : (T : List ℕ) (S : Shape) (s : List ℕ) (o birth : ℕ) (vs : List ℕ) → eventRefusal T S s o birth vs ≡ 0 → (ofSource T S o ≡ true) × (length vs ≡ associated T S o)
 unfolding eventRefusal
 event-known T S s o birth vs e = by (ofSource T S o) (ltb (nowOf s) birth) (eqb (length vs) (associated T S o)) refl refl e
   where
-    by : (a b c : Bool) → ofSource T S o ≡ a → eqb (length vs) (associated T S o) ≡ c → _≡_ {A = ℕ} (pick a (pick b 10 (pick c 0 11)) 9) 0 → (o < outputs S) × (length vs ≡ associated T S o)
-    by true false true h k z = (source-in T S o h, eqb-true _ _ k)
+    by : (a b c : Bool) → ofSource T S o ≡ a → eqb (length vs) (associated T S o) ≡ c → _≡_ {A = ℕ} (pick a (pick b 10 (pick c 0 11)) 9) 0 → (ofSource T S o ≡ true) × (length vs ≡ associated T S o)
+    by true false true h k z = (h, eqb-true _ _ k)
     by true true c h k z = absurd (omega arith)
     by true false false h k z = absurd (omega arith)
     by false b c h k z = absurd (omega arith)

@@ -33,10 +33,10 @@ same-length-3 : tie.Need-same-length-3
 same-length-3 c = search needs
 
 returns-2 : tie.Need-returns-2
-returns-2 c = made-block _ _ _ _ _ _ _ _ _ _ (c .before .before .before .before .before .n2 .given .1) (c .before .before .go-on .ensures) refl
+returns-2 c = made-block _ _ _ _ _ _ _ _ _ _ (c .before .before .before .before .before .n2 .given .1) (c .before .before .go-on .ensures) refl refl
 
 returns-3 : tie.Need-returns-3
-returns-3 c = made-still _ _ _ _ _ _ _ _ _ (c .enum-told .given .1) refl refl
+returns-3 c = made-still _ _ _ _ _ _ _ _ _ (c .enum-told .given .1) refl refl refl
 
 pub make-spec : {M : Type 1} → statement M
 make-spec =

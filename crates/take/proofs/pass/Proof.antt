@@ -3,7 +3,6 @@ use borrow.Author.Needs.{needs}
 use Rattle.take.proofs.pass.Statement.{statement}
 use Rattle.store.specs.Good.{small}
 use Rattle.take.proofs.Turns.{pass-none, pass-one, partner-in}
-use mathlib.Core.Bool.{not}
 use mathlib.Core.Path.{refl}
 use native.Mathlib.Omega.{arith}
 use Rattle.take.proofs.pass.Tie as tie
@@ -20,17 +19,14 @@ enum-told c = search needs
 returns : tie.Need-returns
 returns c = pass-none _ _ _ _ _ (c .before .before .partner-variable .ensures) (c .enum-told .given .1) refl
 
-value-of-requires : tie.Need-value-of-requires
-value-of-requires c κs = search needs
-
 put-value-requires : tie.Need-put-value-requires
-put-value-requires c κs = let h = partner-in _ _ _ _ (c .before .before .before .before .before .before .partner-variable .ensures) (c .before .before .before .before .u .given .1) in (small _ _ (c .before .before .before .before .before .before .before .before .before .pre .0), let k = c .before .before .before .before .before .before .before .before .before .pre .0 .few-variables in omega arith)
+put-value-requires c κs = let h = partner-in _ _ _ _ (c .before .before .before .before .partner-variable .ensures) (c .before .before .u .given .1) in (small _ _ (c .before .before .before .before .before .before .before .pre .0), let k = c .before .before .before .before .before .before .before .pre .0 .few-variables in omega arith)
 
 same-length : tie.Need-same-length
 same-length c = search needs
 
 returns-2 : tie.Need-returns-2
-returns-2 c = pass-one _ _ _ _ _ _ (c .before .before .before .before .before .before .before .before .before .partner-variable .ensures) (c .before .before .before .before .before .before .before .u .given .1) (c .before .before .before .before .value-of .ensures) (c .before .before .put-value .ensures)
+returns-2 c = pass-one _ _ _ _ _ _ (c .before .before .before .before .before .before .before .partner-variable .ensures) (c .before .before .before .before .before .u .given .1) (c .before .before .before .before .before .before .before .before .before .before .pre .2) (c .before .before .put-value .ensures)
 
 pub pass-spec : {M : Type 1} → statement M
 pass-spec =
@@ -40,7 +36,6 @@ pass-spec =
     enum-known-u
     enum-told
     returns
-    value-of-requires
     put-value-requires
     same-length
     returns-2)

@@ -1,40 +1,42 @@
--- `pass_all` meets its contract. The invariant: the store is what the associations passed made of it.
-use Rattle.take.proofs.pass_all.Statement.{statement}
-use Rattle.walk.specs.Walk.{upTo, upTo-none, upTo-more, upTo-end}
-use Rattle.store.specs.Layout.{associations}
-use Rattle.take.specs.Take.{pass}
-use Rattle.take.proofs.Turns.{pass-take, pass-skip}
+-- `pass_all` meets its contract. The invariant: the store is what the associations passed, each sampled and passed on, made of it, and the set has what they
+-- have the partner event carry. That one walk does what the definition does in two is `passed-together`.
 use borrow.Author.Needs.{needs}
+use Rattle.take.proofs.pass_all.Statement.{statement}
+use Rattle.walk.specs.Walk.{upTo, upTo-none, upTo-more}
+use Rattle.bits.specs.Marked.{Marked, marked-none}
+use Rattle.store.specs.Layout.{associations}
+use Rattle.fire.specs.Carry.{voice}
+use Rattle.fire.specs.Carrying.{marks, carry-more, carry-skip, carry-end}
+use Rattle.take.specs.Take.{sample, pass}
+use Rattle.take.proofs.Turns.{passed-end}
 use lib.ListN.{length}
+use mathlib.Core.List.{List}
 use mathlib.Core.Logic.{⊎-elim}
-use mathlib.Core.Path.{_≡_, refl, ap, _∙_}
+use mathlib.Core.Path.{_≡_, refl, _∙_}
 use native.Mathlib.Omega.{arith}
-use Prim.Native.Nat.{_≤_, _-_}
+use Prim.Native.Nat.{ℕ, _≤_, _-_}
 use Rattle.take.proofs.pass_all.Tie as tie
 
 abbrev Inv-loop : tie.InvT-loop
-Inv-loop t store₀ s i n w j₀ store j = (j ≤ associations s) × (store ≡ upTo (pass t s i) j store₀) × (length store ≡ length store₀)
+Inv-loop t store₀ s i n m₀ j₀ store m j = (j ≤ associations s) × (store ≡ upTo (λ (k : ℕ) (x : List ℕ). pass t s i k (sample t s i k x)) j store₀) × (length store ≡ length store₀) × Marked (marks t s (voice 0 i)) 16 m j
 
 abbrev μ-loop : tie.MeasureT-loop
-μ-loop t store₀ s i n w j₀ store j = associations s - j
+μ-loop t store₀ s i n m₀ j₀ store m j = associations s - j
 
 associations-requires : tie.Need-associations-requires Inv-loop μ-loop
 associations-requires c κs = search needs
 
 loop-holds : tie.Need-loop-holds Inv-loop μ-loop
-loop-holds c = (search needs, upTo-none _ _, refl)
+loop-holds c = (search needs, upTo-none _ _, refl, marked-none _ _)
 
-speaks-requires : tie.Need-speaks-requires Inv-loop μ-loop
-speaks-requires c κs = search needs
+pass-on-requires : tie.Need-pass-on-requires Inv-loop μ-loop
+pass-on-requires c κs = search needs
 
-add-field : tie.Need-add-field Inv-loop μ-loop
-add-field c = search needs
+slice-aggregate-mark : tie.Need-slice-aggregate-mark Inv-loop μ-loop
+slice-aggregate-mark c = search needs
 
-field-requires : tie.Need-field-requires Inv-loop μ-loop
-field-requires c κs = search needs
-
-pass-requires : tie.Need-pass-requires Inv-loop μ-loop
-pass-requires c κs = (c .before .before .before .before .before .before .before .before .before .before .pre, omega (arith, c .field .ensures .0, c .before .before .before .before .before .before .before .before .before .before .pre .association-variable (c .before .before .before .before .before .before .loop .j) (omega arith)))
+mark-requires : tie.Need-mark-requires Inv-loop μ-loop
+mark-requires c κs = search needs
 
 add-j : tie.Need-add-j Inv-loop μ-loop
 add-j c = search needs
@@ -44,18 +46,19 @@ loop-less c = search needs
 
 loop-again : tie.Need-loop-again Inv-loop μ-loop
 loop-again c =
-    let l = c .before .before .before .loop in
-    let h = c .before .speaks .ensures in
-    ⊎-elim
-    (λ w. (omega arith, upTo-more _ _ _ _ _ (l .inv .1) (pass-take _ _ _ _ _ _ h (w .0 .taken) (w .3 .ensures .0) (w .7 ∙ w .4 .ensures)), omega (arith, ap length (w .7))))
-    (λ w. (omega arith, upTo-more _ _ _ _ _ (l .inv .1) (pass-skip _ _ _ _ _ _ h (w .0 .left) (w .1)), omega (arith, ap length (w .1))))
-    (c .if1 .came)
+    let l = c .before .before .before .before .before .before .loop in
+    let e = c .before .before .before .pass-on .ensures in (
+      search needs,
+      upTo-more _ _ _ _ _ (l .inv .1) (e .0),
+      search needs,
+      ⊎-elim (λ w. carry-more _ _ _ (l .m) _ (l .j) (e .1) (w .0 .taken) (w .4 ∙ w .2 .ensures .1) (l .inv .3)) (λ w. carry-skip _ _ _ (l .m) _ (l .j) (e .1) (w .0 .left) (w .1) (l .inv .3)) (c .if1 .came),
+    )
 
 same-length : tie.Need-same-length Inv-loop μ-loop
 same-length c = search needs
 
 returns : tie.Need-returns Inv-loop μ-loop
-returns c = upTo-end _ _ _ _ _ (c .before .loop .inv .1) (omega arith)
+returns c = (passed-end _ _ _ _ _ _ (c .before .before .before .before .before .pre) (c .before .loop .inv .1) (omega arith), carry-end _ _ _ _ _ (omega arith) (c .before .loop .inv .3))
 
 pub pass-all-spec : {M : Type 1} → statement M
 pass-all-spec =
@@ -65,10 +68,9 @@ pass-all-spec =
     μ-loop
     associations-requires
     loop-holds
-    speaks-requires
-    add-field
-    field-requires
-    pass-requires
+    pass-on-requires
+    slice-aggregate-mark
+    mark-requires
     add-j
     loop-less
     loop-again

@@ -1,7 +1,7 @@
--- `relay` meets its contract: the values go to their partners first, then what was found is fired.
+-- `relay` meets its contract: the values go to their partners first, then what was found is fired with the set of these partners.
 use borrow.Author.Needs.{needs}
 use Rattle.take.proofs.relay.Statement.{statement}
-use Rattle.take.proofs.Turns.{relay-none, relay-one, output-in}
+use Rattle.take.proofs.Turns.{relay-none, relay-one, relay-carries}
 use mathlib.Core.Path.{refl}
 use Rattle.take.proofs.relay.Tie as tie
 
@@ -21,16 +21,16 @@ same-length : tie.Need-same-length
 same-length c = search needs
 
 returns : tie.Need-returns
-returns c = relay-none _ _ _ _ _ _ _ _ (c .before .before .before .before .before .pass-all .ensures) (c .before .before .partner-output .ensures) (c .enum-told .given .1) refl
+returns c = relay-none _ _ _ _ _ _ _ _ (c .before .before .before .before .before .pass-all .ensures .0) (c .before .before .partner-output .ensures) (c .enum-told .given .1) refl
 
-fire-requires : tie.Need-fire-requires
-fire-requires c κs = (c .before .before .before .before .before .before .before .before .before .before .before .pre .0, output-in _ _ _ _ (c .before .before .before .before .partner-output .ensures) (c .before .before .o .given .1))
+fire-carrying-requires : tie.Need-fire-carrying-requires
+fire-carrying-requires c κs = (c .before .before .before .before .before .before .before .before .before .before .before .before .pre .0, relay-carries _ _ _ _ _ (c .before .before .before .before .before .before .before .before .before .before .before .before .pre .1) (c .before .before .before .before .before .before .before .before .before .before .before .before .pre .2) (c .before .before .before .before .before .partner-output .ensures) (c .before .before .before .o .given .1) (c .before .before .before .before .before .before .before .before .pass-all .ensures .1))
 
 same-length-2 : tie.Need-same-length-2
 same-length-2 c = search needs
 
 returns-2 : tie.Need-returns-2
-returns-2 c = relay-one _ _ _ _ _ _ _ _ _ (c .before .before .before .before .before .before .before .before .before .before .pass-all .ensures) (c .before .before .before .before .before .before .before .partner-output .ensures) (c .before .before .before .before .before .o .given .1) (c .before .before .fire .ensures)
+returns-2 c = relay-one _ _ _ _ _ _ _ _ _ (c .before .before .before .before .before .before .before .before .before .before .before .pass-all .ensures .0) (c .before .before .before .before .before .before .before .before .partner-output .ensures) (c .before .before .before .before .before .before .o .given .1) (c .before .before .fire-carrying .ensures)
 
 pub relay-spec : {M : Type 1} → statement M
 relay-spec =
@@ -42,6 +42,6 @@ relay-spec =
     enum-told
     same-length
     returns
-    fire-requires
+    fire-carrying-requires
     same-length-2
     returns-2)

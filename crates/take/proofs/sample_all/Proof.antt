@@ -1,11 +1,11 @@
 -- `sample_all` meets its contract. The invariant: the store is what the associations passed made of it.
+use borrow.Author.Needs.{needs}
 use Rattle.take.proofs.sample_all.Statement.{statement}
 use Rattle.walk.specs.Walk.{upTo, upTo-none, upTo-more, upTo-end}
 use Rattle.store.specs.Layout.{associations}
 use Rattle.store.specs.Good.{small}
 use Rattle.take.specs.Take.{sample}
 use Rattle.take.proofs.Turns.{sample-take, sample-skip}
-use borrow.Author.Needs.{needs}
 use lib.ListN.{length}
 use mathlib.Core.Logic.{⊎-elim}
 use mathlib.Core.Path.{_≡_, refl, ap, _∙_}
@@ -34,11 +34,8 @@ add-field c = search needs
 field-requires : tie.Need-field-requires Inv-loop μ-loop
 field-requires c κs = search needs
 
-buffer-of-requires : tie.Need-buffer-of-requires Inv-loop μ-loop
-buffer-of-requires c κs = (small _ _ (c .before .before .before .before .before .before .before .before .before .before .pre), omega arith)
-
-put-value-requires : tie.Need-put-value-requires Inv-loop μ-loop
-put-value-requires c κs = (small _ _ (c .before .before .before .before .before .before .before .before .before .before .before .before .pre), omega arith)
+sample-requires : tie.Need-sample-requires Inv-loop μ-loop
+sample-requires c κs = (small _ _ (c .before .before .before .before .before .before .before .before .before .before .pre), omega arith)
 
 add-j : tie.Need-add-j Inv-loop μ-loop
 add-j c = search needs
@@ -51,7 +48,7 @@ loop-again c =
     let l = c .before .before .before .loop in
     let h = c .before .speaks .ensures in
     ⊎-elim
-    (λ w. (omega arith, upTo-more _ _ _ _ _ (l .inv .1) (sample-take _ _ _ _ _ _ h (w .0 .taken) (w .2 .ensures .0) (w .4 .ensures) (w .9 ∙ w .6 .ensures)), omega (arith, ap length (w .9))))
+    (λ w. (omega arith, upTo-more _ _ _ _ _ (l .inv .1) (sample-take _ _ _ _ _ _ h (w .0 .taken) (w .3 .ensures .0) (w .4 .ensures .0) (w .7 ∙ w .4 .ensures .1)), omega (arith, ap length (w .7))))
     (λ w. (omega arith, upTo-more _ _ _ _ _ (l .inv .1) (sample-skip _ _ _ _ _ _ h (w .0 .left) (w .1)), omega (arith, ap length (w .1))))
     (c .if1 .came)
 
@@ -72,8 +69,7 @@ sample-all-spec =
     speaks-requires
     add-field
     field-requires
-    buffer-of-requires
-    put-value-requires
+    sample-requires
     add-j
     loop-less
     loop-again

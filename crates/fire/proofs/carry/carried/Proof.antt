@@ -2,7 +2,7 @@
 use Rattle.fire.proofs.carry.carried.Statement.{statement}
 use Rattle.store.specs.Layout.{associations}
 use Rattle.bits.specs.Marked.{Marked, marked-none}
-use Rattle.fire.proofs.Turns.{marks, carry-more, carry-skip, carry-end}
+use Rattle.fire.specs.Carrying.{marks, carry-more, carry-skip, carry-end}
 use borrow.Author.Needs.{needs}
 use lib.ListN.{set}
 use mathlib.Core.Logic.{⊎-elim}

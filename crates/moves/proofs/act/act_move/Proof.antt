@@ -1,7 +1,7 @@
 -- `act_move` meets its contract: what was found decides (`act-none`, `act-on`, `act-over`).
 use borrow.Author.Needs.{needs}
 use Rattle.moves.proofs.act.act_move.Statement.{statement}
-use Rattle.moves.proofs.Turns.{action-in, act-none, act-on, act-over}
+use Rattle.moves.proofs.Turns.{action-in, action-found, act-none, act-on, act-over}
 use native.Mathlib.Omega.{arith}
 use Rattle.moves.proofs.act.act_move.Tie as tie
 
@@ -51,7 +51,10 @@ returns-2 : tie.Need-returns-2
 returns-2 c = act-on _ _ _ _ _ _ (c .before .before .before .before .before .before .before .before .before .before .before .before .before .state-of .ensures) (c .before .before .before .before .before .before .before .before .before .before .before .before .wide .ensures) (c .before .before .before .before .before .before .before .before .before .before .before .action-of .ensures) _ (c .before .before .before .before .before .before .before .before .before .j .given .1) (c .before .before .before .before .before .before .before .wide2 .ensures) (c .before .before .before .before .before .field .ensures .0) (c .before .before .before .before .if1 .taken) (c .before .before .step-move .ensures)
 
 end-move-requires : tie.Need-end-move-requires
-end-move-requires c κs = let h = action-in _ _ _ _ _ (c .before .before .before .before .before .before .before .before .action-of .ensures) (c .before .before .before .before .before .before .j .given .1) in let g = c .before .before .before .before .before .before .before .before .before .before .before .before .before .before .pre .0 in (g, h .0, omega (arith, h .1, c .before .before .before .before .before .before .before .before .before .wide .ensures, g .to-actions, g .to-steps, g .to-connections, g .to-links, g .to-end, g .few))
+end-move-requires c κs =
+    let h = action-in _ _ _ _ _ (c .before .before .before .before .before .before .before .before .action-of .ensures) (c .before .before .before .before .before .before .j .given .1) in
+    let g = c .before .before .before .before .before .before .before .before .before .before .before .before .before .before .pre .0 in
+    (g, h .0, action-found _ _ _ _ _ (c .before .before .before .before .before .before .before .before .before .wide .ensures) (c .before .before .before .before .before .before .before .before .action-of .ensures) (c .before .before .before .before .before .before .j .given .1), omega (arith, h .1, c .before .before .before .before .before .before .before .before .before .wide .ensures, g .to-actions, g .to-steps, g .to-connections, g .to-links, g .to-end, g .few))
 
 same-length-3 : tie.Need-same-length-3
 same-length-3 c = search needs

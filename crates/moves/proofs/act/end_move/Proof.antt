@@ -11,14 +11,11 @@ add-field c = search needs
 field-requires : tie.Need-field-requires
 field-requires c κs = search needs
 
-add-action-number : tie.Need-add-action-number
-add-action-number c = search needs
-
-action-number-requires : tie.Need-action-number-requires
-action-number-requires c κs = search needs
+number-after-requires : tie.Need-number-after-requires
+number-after-requires c κs = search needs
 
 fire-any-requires : tie.Need-fire-any-requires
-fire-any-requires c κs = (c .before .before .before .before .before .before .before .pre .0, λ h. rw (c .before .before .before .field .ensures .0) (c .before .before .before .before .before .before .before .pre .0 .action-event (c .before .before .before .before .before .before .before .args .j) (c .before .before .before .before .before .before .before .pre .1) (λ e. h (c .before .before .before .field .ensures .0 ∙ e))))
+fire-any-requires c κs = (c .before .before .before .before .before .before .pre .0, λ h. rw (c .before .before .field .ensures .0) (c .before .before .before .before .before .before .pre .0 .action-event (c .before .before .before .before .before .before .args .j) (c .before .before .before .before .before .before .pre .1) (λ e. h (c .before .before .field .ensures .0 ∙ e))))
 
 entered-requires : tie.Need-entered-requires
 entered-requires c κs = search needs
@@ -31,7 +28,7 @@ same-length c = search needs
 
 returns : tie.Need-returns
 unfolding endMove
-returns c = rw (c .before .before .put-running .ensures, c .before .before .before .entered .ensures, c .before .before .before .before .before .before .before .fire-any .ensures, c .before .before .before .before .before .before .before .before .before .action-number .ensures, c .before .before .before .before .before .before .before .before .before .before .before .field .ensures .0)
+returns c = rw (c .before .before .put-running .ensures, c .before .before .before .entered .ensures, c .before .before .before .before .before .before .before .fire-any .ensures, c .before .before .before .before .before .before .before .before .before .number-after .ensures, c .before .before .before .before .before .before .before .before .before .before .field .ensures .0)
 
 pub end-move-spec : {M : Type 1} → statement M
 end-move-spec =
@@ -39,8 +36,7 @@ end-move-spec =
     (tie.spec
     add-field
     field-requires
-    add-action-number
-    action-number-requires
+    number-after-requires
     fire-any-requires
     entered-requires
     put-running-requires

@@ -1,12 +1,15 @@
--- `give_all` meets its contract. The invariant: k counts the associations passed that speak, and the store is what they made of it.
+-- `give_all` meets its contract. The invariant: k counts the associations passed that speak, the store is what they made of it, and the set has the variables that
+-- they have the event carry.
+use borrow.Author.Needs.{needs}
 use Rattle.run.proofs.calls.give_all.Statement.{statement}
 use Rattle.walk.specs.Count.{countIf, count-none, count-hit, count-miss, count-past}
 use Rattle.walk.specs.Walk.{upTo, upTo-none, upTo-more, upTo-end}
+use Rattle.bits.specs.Marked.{Marked, marked-none}
 use Rattle.store.specs.Layout.{associations}
 use Rattle.fire.specs.Carry.{voice, speaks}
+use Rattle.fire.specs.Carrying.{marks, carry-more, carry-skip, carry-end, carried-own, carried-none}
 use Rattle.run.specs.Calls.{give, associated}
 use Rattle.run.proofs.Turns.{give-one, give-none}
-use borrow.Author.Needs.{needs}
 use denote.Ref.{now}
 use lib.ListN.{length}
 use mathlib.Core.Logic.{⊎-elim}
@@ -16,16 +19,17 @@ use Prim.Native.Nat.{ℕ, _≤_, _<_, _-_, _+_}
 use Rattle.run.proofs.calls.give_all.Tie as tie
 
 abbrev Inv-loop : tie.InvT-loop
-Inv-loop t store₀ s o values n w k₀ j₀ store k j = (j ≤ associations s) × (k ≡ countIf (speaks t s (voice 1 o)) j) × (store ≡ upTo (give t s o values) j store₀) × (length store ≡ length store₀) × (k ≤ j)
+Inv-loop t store₀ s o values n w m₀ k₀ j₀ store m k j =
+    (j ≤ associations s) × (k ≡ countIf (speaks t s (voice 1 o)) j) × (store ≡ upTo (give t s o values) j store₀) × (length store ≡ length store₀) × (k ≤ j) × Marked (marks t s (voice 1 o)) 16 m j
 
 abbrev μ-loop : tie.MeasureT-loop
-μ-loop t store₀ s o values n w k₀ j₀ store k j = associations s - j
+μ-loop t store₀ s o values n w m₀ k₀ j₀ store m k j = associations s - j
 
 associations-requires : tie.Need-associations-requires Inv-loop μ-loop
 associations-requires c κs = search needs
 
 loop-holds : tie.Need-loop-holds Inv-loop μ-loop
-loop-holds c = (search needs, sym (count-none _), upTo-none _ _, refl, search needs)
+loop-holds c = (search needs, sym (count-none _), upTo-none _ _, refl, search needs, marked-none _ _)
 
 speaks-requires : tie.Need-speaks-requires Inv-loop μ-loop
 speaks-requires c κs = search needs
@@ -51,6 +55,15 @@ shared-slice-read-put-value c =
 put-value-requires : tie.Need-put-value-requires Inv-loop μ-loop
 put-value-requires c κs = search needs
 
+slice-aggregate-mark : tie.Need-slice-aggregate-mark Inv-loop μ-loop
+slice-aggregate-mark c = search needs
+
+mark-requires : tie.Need-mark-requires Inv-loop μ-loop
+mark-requires c κs =
+    let lt : c .before .before .before .before .before .before .before .before .before .before .before .loop .j < associations (c .before .before .before .before .before .before .before .before .before .before .before .before .before .before .before .before .args .s) = omega arith in
+    let g = c .before .before .before .before .before .before .before .before .before .before .before .before .before .before .before .before .pre .0 in
+    omega (arith, c .before .before .before .before .before .before .field .ensures .0, g .association-variable (c .before .before .before .before .before .before .before .before .before .before .before .loop .j) lt, g .few-variables, c .before .before .before .before .before .before .before .before .before .before .before .loop .inv .5 .long)
+
 add-k : tie.Need-add-k Inv-loop μ-loop
 add-k c = search needs
 
@@ -64,16 +77,32 @@ loop-again : tie.Need-loop-again Inv-loop μ-loop
 loop-again c =
     let l = c .before .before .before .loop in
     let h = c .before .speaks .ensures in
+    let g = c .before .before .before .before .before .before .before .before .pre .0 in
+    let lt : l .j < associations (c .before .before .before .before .before .before .before .before .args .s) = omega arith in
     ⊎-elim
-    (λ w. (omega arith, w .9 ∙ ap (λ (n : ℕ). n + 1) (l .inv .1) ∙ sym (count-hit _ (l .j) (sym h ∙ w .0 .taken)), upTo-more _ _ _ _ _ (l .inv .2) (give-one _ _ _ _ _ _ _ h (w .0 .taken) (w .3 .ensures .0) (l .inv .1) (w .8 ∙ w .5 .ensures)), omega (arith, ap length (w .8)), omega arith))
-    (λ w. (omega arith, w .2 ∙ l .inv .1 ∙ sym (count-miss _ (l .j) (sym h ∙ w .0 .left)), upTo-more _ _ _ _ _ (l .inv .2) (give-none _ _ _ _ _ _ _ h (w .0 .left) (w .1)), omega (arith, ap length (w .1)), omega arith))
+    (λ w. (
+      omega arith,
+      w .13 ∙ ap (λ (n : ℕ). n + 1) (l .inv .1) ∙ sym (count-hit _ (l .j) (sym h ∙ w .0 .taken)),
+      upTo-more _ _ _ _ _ (l .inv .2) (give-one _ _ _ _ _ _ _ h (w .0 .taken) (w .2 .ensures .0) (l .inv .1) (w .11 ∙ w .5 .ensures)),
+      omega (arith, ap length (w .11)),
+      omega arith,
+      carry-more _ _ _ (l .m) _ (l .j) (w .2 .ensures .0 ∙ carried-own _ _ _ (l .j) (sym h ∙ w .0 .taken)) (let v = g .association-variable (l .j) lt in omega (arith, w .2 .ensures .0, g .few-variables)) (w .12 ∙ w .9 .ensures .1) (l .inv .5),
+    ))
+    (λ w. (
+      omega arith,
+      w .3 ∙ l .inv .1 ∙ sym (count-miss _ (l .j) (sym h ∙ w .0 .left)),
+      upTo-more _ _ _ _ _ (l .inv .2) (give-none _ _ _ _ _ _ _ h (w .0 .left) (w .1)),
+      omega (arith, ap length (w .1)),
+      omega arith,
+      carry-skip _ _ _ (l .m) _ (l .j) (carried-none _ _ _ (l .j) (sym h ∙ w .0 .left)) (omega arith) (w .2) (l .inv .5),
+    ))
     (c .if1 .came)
 
 same-length : tie.Need-same-length Inv-loop μ-loop
 same-length c = search needs
 
 returns : tie.Need-returns Inv-loop μ-loop
-returns c = upTo-end _ _ _ _ _ (c .before .loop .inv .2) (omega arith)
+returns c = (upTo-end _ _ _ _ _ (c .before .loop .inv .2) (omega arith), carry-end _ _ _ _ _ (omega arith) (c .before .loop .inv .5))
 
 pub give-all-spec : {M : Type 1} → statement M
 give-all-spec =
@@ -89,6 +118,8 @@ give-all-spec =
     mul-put-value
     shared-slice-read-put-value
     put-value-requires
+    slice-aggregate-mark
+    mark-requires
     add-k
     add-j
     loop-less

@@ -1,7 +1,7 @@
 -- `run_moves` meets its contract. The invariant: the run is on its way (`Going`).
+use borrow.Author.Needs.{needs}
 use Rattle.run.proofs.running.run_moves.Statement.{statement}
 use Rattle.run.proofs.Going.{Going, going-start, going-more, going-done, room-left, budget-left}
-use borrow.Author.Needs.{needs}
 use lib.ListN.{length}
 use mathlib.Core.Path.{_≡_, refl, sym, _∙_}
 use native.Mathlib.Omega.{arith}
@@ -20,26 +20,20 @@ loop-holds c = (going-start _ _ _ _ _ _, refl)
 next-move-requires : tie.Need-next-move-requires Inv-loop μ-loop
 next-move-requires c κs = search needs
 
-size-requires : tie.Need-size-requires Inv-loop μ-loop
-size-requires c κs = search needs
-
 asked-requires : tie.Need-asked-requires Inv-loop μ-loop
-asked-requires c κs = let w = c .before .before .before .loop .inv .0 in omega (arith, w .fits, w .long)
+asked-requires c κs = (c .before .before .before .before .before .before .pre .0, c .next-move .ensures .1, let w = c .before .before .loop .inv .0 in omega (arith, w .fits, w .long))
 
 make-requires : tie.Need-make-requires Inv-loop μ-loop
-make-requires c κs = (c .before .before .before .before .before .before .before .before .before .before .before .pre .0, c .before .before .before .before .before .next-move .ensures .1, c .before .before .before .before .before .before .before .before .before .before .before .pre .1, let w = room-left _ _ _ _ _ _ _ _ _ _ (c .before .before .before .before .before .before .before .loop .inv .0) (c .before .before .before .before .before .next-move .ensures .0) (c .before .before .before .before .size .ensures .0) (sym (c .before .before .if1 .left) ∙ c .before .before .before .asked .ensures) in omega (arith, c .before .before .before .before .size .ensures .0))
-
-add-at : tie.Need-add-at Inv-loop μ-loop
-add-at c = let w = room-left _ _ _ _ _ _ _ _ _ _ (c .before .before .before .before .before .before .before .before .before .before .before .before .loop .inv .0) (c .before .before .before .before .before .before .before .before .before .before .next-move .ensures .0) (c .before .before .before .before .before .before .before .before .before .size .ensures .0) (sym (c .before .before .before .before .before .before .before .if1 .left) ∙ c .before .before .before .before .before .before .before .before .asked .ensures) in omega arith
+make-requires c κs = (c .before .before .before .before .before .before .before .before .before .before .pre .0, c .before .before .before .before .next-move .ensures .1, c .before .before .before .before .before .before .before .before .before .before .pre .1, room-left _ _ _ _ _ _ _ _ _ _ (c .before .before .before .before .before .before .loop .inv .0) (c .before .before .before .before .next-move .ensures .0) (sym (c .before .before .if1 .left) ∙ c .before .before .before .asked .ensures))
 
 add-n : tie.Need-add-n Inv-loop μ-loop
-add-n c = let w = budget-left _ _ _ _ _ _ _ _ _ _ (c .before .before .before .before .before .before .before .before .before .before .before .before .loop .inv .0) (c .before .before .before .before .before .before .before .before .before .before .next-move .ensures .0) (c .before .before .before .before .before .before .before .before .before .size .ensures .0) (sym (c .before .before .before .before .before .before .before .if1 .left) ∙ c .before .before .before .before .before .before .before .before .asked .ensures) in omega arith
+add-n c = let w = budget-left _ _ _ _ _ _ _ _ _ _ (c .before .before .before .before .before .before .before .before .before .before .before .loop .inv .0) (c .before .before .before .before .before .before .before .before .before .next-move .ensures .0) (sym (c .before .before .before .before .before .before .before .if1 .left) ∙ c .before .before .before .before .before .before .before .before .asked .ensures) in omega arith
 
 loop-less : tie.Need-loop-less Inv-loop μ-loop
-loop-less c = let w = budget-left _ _ _ _ _ _ _ _ _ _ (c .before .before .before .before .before .before .before .before .before .before .before .before .loop .inv .0) (c .before .before .before .before .before .before .before .before .before .before .next-move .ensures .0) (c .before .before .before .before .before .before .before .before .before .size .ensures .0) (sym (c .before .before .before .before .before .before .before .if1 .left) ∙ c .before .before .before .before .before .before .before .before .asked .ensures) in omega arith
+loop-less c = let w = budget-left _ _ _ _ _ _ _ _ _ _ (c .before .before .before .before .before .before .before .before .before .before .before .loop .inv .0) (c .before .before .before .before .before .before .before .before .before .next-move .ensures .0) (sym (c .before .before .before .before .before .before .before .if1 .left) ∙ c .before .before .before .before .before .before .before .before .asked .ensures) in omega arith
 
 loop-again : tie.Need-loop-again Inv-loop μ-loop
-loop-again c = (going-more _ _ _ _ _ _ _ _ _ _ (c .before .before .before .before .before .before .before .before .before .before .before .before .loop .inv .0) (c .before .before .before .before .before .before .before .before .before .before .next-move .ensures .0) (c .before .before .before .before .before .before .before .before .before .size .ensures .0) (sym (c .before .before .before .before .before .before .before .if1 .left) ∙ c .before .before .before .before .before .before .before .before .asked .ensures) _ _ (c .before .before .before .before .make .ensures .0) (c .before .before .before .before .make .ensures .1), search needs)
+loop-again c = (going-more _ _ _ _ _ _ _ _ _ _ (c .before .before .before .before .before .before .before .before .before .before .before .loop .inv .0) (c .before .before .before .before .before .before .before .before .before .next-move .ensures .0) (sym (c .before .before .before .before .before .before .before .if1 .left) ∙ c .before .before .before .before .before .before .before .before .asked .ensures) _ _ (c .before .before .before .before .make .ensures .0) (c .before .before .before .before .make .ensures .1) (c .before .before .before .before .make .ensures .2), search needs)
 
 same-length : tie.Need-same-length Inv-loop μ-loop
 same-length c = search needs
@@ -48,7 +42,7 @@ same-length-2 : tie.Need-same-length-2 Inv-loop μ-loop
 same-length-2 c = search needs
 
 returns : tie.Need-returns Inv-loop μ-loop
-returns c = going-done _ _ _ _ _ _ _ _ _ _ (c .before .before .before .before .before .loop .inv .0) (c .before .before .before .next-move .ensures .0) (c .before .before .size .ensures .0) (c .before .asked .ensures) (c .if1 .taken)
+returns c = going-done _ _ _ _ _ _ _ _ _ _ (c .before .before .before .before .loop .inv .0) (c .before .before .next-move .ensures .0) (c .before .asked .ensures) (c .if1 .taken)
 
 pub run-moves-spec : {M : Type 1} → statement M
 run-moves-spec =
@@ -58,10 +52,8 @@ run-moves-spec =
     μ-loop
     loop-holds
     next-move-requires
-    size-requires
     asked-requires
     make-requires
-    add-at
     add-n
     loop-less
     loop-again

@@ -1,19 +1,13 @@
--- `write_record` meets its contract: the head, then the values.
+-- `write_record` meets its contract: the head, then the values as they are sampled.
 use borrow.Author.Needs.{needs}
 use Rattle.take.proofs.record.write_record.Statement.{statement}
 use Rattle.take.proofs.Written.{record-written}
-use Rattle.take.specs.Record.{recordSize, head}
-use lib.ListN.{length}
-use mathlib.Core.Path.{ap}
-use native.Mathlib.Omega.{arith}
+use Rattle.take.specs.Record.{recordSize}
 use lib.Seq.{length-sets}
+use mathlib.Core.Path.{ap}
+use lib.ListN.{length}
+use native.Mathlib.Omega.{arith}
 use Rattle.take.proofs.record.write_record.Tie as tie
-
-add-field : tie.Need-add-field
-add-field c = search needs
-
-field-requires : tie.Need-field-requires
-field-requires c κs = search needs
 
 cast-write-head : tie.Need-cast-write-head
 cast-write-head c = search needs
@@ -23,31 +17,34 @@ cast-write-head-2 c = search needs
 
 write-head-requires : tie.Need-write-head-requires
 unfolding recordSize
-write-head-requires c κs = let h = c .before .before .before .before .before .before .pre .2 in omega arith
+write-head-requires c κs = let h = c .before .before .before .before .pre .3 in omega arith
 
-add-write-values : tie.Need-add-write-values
-add-write-values c = search needs
+add-sample-into : tie.Need-add-sample-into
+add-sample-into c = search needs
 
-write-values-requires : tie.Need-write-values-requires
+sample-into-requires : tie.Need-sample-into-requires
 unfolding recordSize
-write-values-requires c κs = (c .before .before .before .before .before .before .before .before .before .before .pre .0, let h = c .before .before .before .before .before .before .before .before .before .before .pre .2 in let e = simp length-sets at (ap length (c .before .before .before .write-head .ensures)) in omega arith)
+sample-into-requires c κs = (c .before .before .before .before .before .before .before .before .before .pre .0, let h = c .before .before .before .before .before .before .before .before .before .pre .3 in let e = simp length-sets at (ap length (c .before .before .before .before .write-head .ensures)) in omega arith)
 
 same-length : tie.Need-same-length
 same-length c = search needs
 
+same-length-2 : tie.Need-same-length-2
+same-length-2 c = search needs
+
 returns : tie.Need-returns
-returns c = record-written _ _ _ _ _ _ _ _ _ (c .before .before .before .before .before .before .before .before .field .ensures .0) (c .before .before .before .before .before .before .write-head .ensures) (c .before .before .write-values .ensures)
+unfolding recordSize
+returns c = (c .before .before .before .before .sample-into .ensures .0, record-written _ _ _ _ _ _ _ _ _ _ (c .before .before .before .before .before .before .before .before .before .write-head .ensures) (c .before .before .before .before .sample-into .ensures .1), let h = c .before .before .before .before .sample-into .ensures .2 in omega arith)
 
 pub write-record-spec : {M : Type 1} → statement M
 write-record-spec =
     tie.close
     (tie.spec
-    add-field
-    field-requires
     cast-write-head
     cast-write-head-2
     write-head-requires
-    add-write-values
-    write-values-requires
+    add-sample-into
+    sample-into-requires
     same-length
+    same-length-2
     returns)
