@@ -2,15 +2,18 @@
 use mathlib.Core.Path.{_≡_, refl}
 use mathlib.Core.List.{List}
 use mathlib.Core.Bool.{true}
-use Prim.Native.Nat.{ℕ, _<_}
+use Prim.Native.Nat.{ℕ, _+_, _<_}
+use native.Mathlib.Omega.{arith}
+use lib.Dec.{eqb}
 use borrow.Author.Tests.{eq-eqb, ne-eqb, eqb-true}
-use Rattle.walk.specs.First.{one}
-use Rattle.frames.specs.Frame.{flagAt}
+use Rattle.walk.specs.Pick.{both-left}
+use Rattle.walk.specs.First.{one, first-means}
+use Rattle.frames.specs.Frame.{flagAt, fieldAt}
 use Rattle.table.specs.declared.Shape.{Shape}
-use Rattle.store.specs.Layout.{inputs, outputs}
-use Rattle.owned.specs.Owned.{any, belongs, rank}
+use Rattle.store.specs.Layout.{inputs, outputs, variables, variableFrame}
+use Rattle.owned.specs.Owned.{any, belongs, rank, isNth}
 use Rattle.owned.specs.Nth.{nth-own, nth-belongs, nth-rank}
-use Rattle.fire.specs.Partner.{inputOwner, outputOwner, partnerOutput, partnerInput}
+use Rattle.fire.specs.Partner.{inputOwner, outputOwner, variableOwner, partnerOutput, partnerInput, partnerVariable}
 use Rattle.fire.specs.Carry.{voice, voiceOf}
 
 module _ (T : List ℕ) (S : Shape) (i o : ℕ) (known : i < inputs S) (partner : partnerOutput T S i ≡ one o) where
@@ -40,3 +43,14 @@ module _ (T : List ℕ) (S : Shape) (i o : ℕ) (known : i < inputs S) (partner 
 pub own-voice : (T : List ℕ) (S : Shape) (o : ℕ) → (flagAt T (outputOwner T S o) ≡ 1 → ⊥) → voiceOf T S o ≡ voice 1 o
 unfolding voiceOf
 own-voice T S o h = rw (ne-eqb (flagAt T (outputOwner T S o)) 1 h)
+
+-- an interface's partner is one of its output variables
+pub partner-output : (T : List ℕ) (S : Shape) (v u : ℕ) → partnerVariable T S v ≡ one u → (u < variables S) × (flagAt T (variableFrame S u) ≡ 1)
+unfolding partnerVariable isNth belongs
+partner-output T S v u e =
+    let x = variableOwner T S v in
+    let n = rank T (S .outputs) 0 x v in
+    let w = first-means (isNth T (S .outputs) 1 x n) 0 (variables S) u e in
+    let h = both-left (belongs T (S .outputs) 1 x u) (eqb (rank T (S .outputs) 1 x u) n) (w .passes) in
+    let g = both-left (eqb (flagAt T (S .outputs + u)) 1) (eqb (fieldAt T (S .outputs + u) 0) x) h in
+    (let b = w .below in omega arith, eqb-true (flagAt T (variableFrame S u)) 1 g)

@@ -19,10 +19,10 @@ use Rattle.table.specs.declared.Shape.{Shape}
 use Rattle.store.specs.Layout.{need, inputs, variables, variableFrame, elementAt, inputAt, variableAt}
 use Rattle.store.specs.Running.{rest}
 use Rattle.store.specs.Word.{nowOf, runningElement, currentEvent, runningOf, spares, spareWord, chartState, putChartState, dueFlag, dueTime, waiting, birthOf, lastUpdate, value, putValue, buffer, putBuffer}
-use Rattle.store.specs.Laws.{buffer-putBuffer, value-putBuffer}
+use Rattle.store.specs.Laws.{buffer-putBuffer, buffer-putValue, value-putBuffer, value-putValue}
 use Rattle.parts.specs.Part.{Part, chart, sampled, buffered, just, also, everything, Leaves, leaves-all, leaves-then}
 use Rattle.parts.specs.Writer.{leaves-chart, leaves-value, leaves-buffer}
-use Rattle.parts.specs.Own.{chart-put, chart-other, value-put, value-other, buffer-put, buffer-value}
+use Rattle.parts.specs.Own.{chart-put, chart-other, value-put, buffer-put}
 use Rattle.load.specs.Load.{zeroes, initial, startValue, start, loaded}
 use Rattle.parts.specs.Lawful.{Lawful}
 use Rattle.kept.specs.Formed.{Formed}
@@ -143,7 +143,7 @@ module _ (T : List ℕ) (S : Shape) where
 
       values′ : (v : ℕ) → v < suc n → value S y v ≡ startValue T S v
       values′ v b =
-          ⊎-elim (λ q. rw q (value-put S x (w .long) n a l)) (λ q. value-other S x n v a (λ z. omega arith) ∙ w .values v q) (eq-or-lt-of-le (le-of-suc-le-suc b))
+          ⊎-elim (λ q. rw q (value-put S x (w .long) n a l)) (λ q. value-putValue S x n v a (λ z. omega arith) ∙ w .values v q) (eq-or-lt-of-le (le-of-suc-le-suc b))
 
       by : (c : Bool) → eqb (flagAt T (variableFrame S n)) 0 ≡ c → Started (suc n) (choose c (putBuffer S n a y) y)
       by true e =
@@ -154,10 +154,10 @@ module _ (T : List ℕ) (S : Shape) where
             buffers =
                 λ v b z.
                 ⊎-elim (λ q. rw q (buffer-put S y long′ n a l))
-                (λ q. buffer-putBuffer S y n v a (λ m. omega arith) ∙ buffer-value S x n v a ∙ w .buffers v q z) (eq-or-lt-of-le (le-of-suc-le-suc b));
+                (λ q. buffer-putBuffer S y n v a (λ m. omega arith) ∙ buffer-putValue S x n v a ∙ w .buffers v q z) (eq-or-lt-of-le (le-of-suc-le-suc b));
             others =
                 λ v b z.
-                buffer-putBuffer S y n v a (λ m. z (ap (λ (i : ℕ). flagAt T (variableFrame S i)) m ∙ eqb-true (flagAt T (variableFrame S n)) 0 e)) ∙ buffer-value S x n v a
+                buffer-putBuffer S y n v a (λ m. z (ap (λ (i : ℕ). flagAt T (variableFrame S i)) m ∙ eqb-true (flagAt T (variableFrame S n)) 0 e)) ∙ buffer-putValue S x n v a
                 ∙ w .others v b z;
           })
       by false e =
@@ -168,8 +168,8 @@ module _ (T : List ℕ) (S : Shape) where
             buffers =
                 λ v b z.
                 ⊎-elim (λ q. absurd (eqb-false (flagAt T (variableFrame S n)) 0 e (ap (λ (i : ℕ). flagAt T (variableFrame S i)) (sym q) ∙ z)))
-                (λ q. buffer-value S x n v a ∙ w .buffers v q z) (eq-or-lt-of-le (le-of-suc-le-suc b));
-            others = λ v b z. buffer-value S x n v a ∙ w .others v b z;
+                (λ q. buffer-putValue S x n v a ∙ w .buffers v q z) (eq-or-lt-of-le (le-of-suc-le-suc b));
+            others = λ v b z. buffer-putValue S x n v a ∙ w .others v b z;
           })
 
   -- ---- load

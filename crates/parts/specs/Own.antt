@@ -150,11 +150,3 @@ module _ (S : Shape) (s : List ℕ) where
   pub event-running : (r : Running) → currentEvent (putRunning r s) ≡ currentEvent s
   unfolding currentEvent
   event-running r = owner-words r .apart 2 (λ a b. omega arith)
-
-  pub value-other : (v u x : ℕ) → (u ≡ v → ⊥) → value S (putValue S v x s) u ≡ value S s u
-  unfolding value putValue variableAt
-  value-other v u x n = getD-set-other s (variableAt S v) (variableAt S u) x 0 (λ e. n (omega arith))
-
-  pub buffer-value : (v u x : ℕ) → buffer S (putValue S v x s) u ≡ buffer S s u
-  unfolding buffer putValue variableAt
-  buffer-value v u x = getD-set-other s (variableAt S v) (variableAt S u + 1) x 0 (λ e. omega arith)

@@ -7,39 +7,28 @@ use native.Mathlib.Omega.{arith}
 use lib.Dec.{eqb}
 use lib.ListN.{length}
 use borrow.Author.Tests.{eqb-true, eqb-false}
-use Rattle.walk.specs.Pick.{both, either, either-false, either-true, both-left, clash}
+use Rattle.walk.specs.Pick.{both, either, either-false, either-true, clash}
 use Rattle.walk.specs.Choose.{choose, by-choose}
 use Rattle.walk.specs.All.{anyTo}
-use Rattle.walk.specs.First.{Sought, one, missing, first-means}
+use Rattle.walk.specs.First.{Sought, one, missing}
 use Rattle.walk.specs.Walk.{upTo-keeps, upTo-carries}
 use Rattle.frames.specs.Frame.{flagAt, fieldAt}
 use Rattle.table.specs.declared.Shape.{Shape}
 use Rattle.store.specs.Layout.{need, inputs, variables, associations, associationFrame, variableFrame}
 use Rattle.store.specs.Running.{awake}
 use Rattle.store.specs.Word.{putOwner, putRunning, putDue, putInput, value, putValue, buffer}
-use Rattle.store.specs.Laws.{buffer-putInput, value-putInput}
+use Rattle.store.specs.Laws.{buffer-putInput, buffer-putValue, value-putInput, value-putValue}
 use Rattle.parts.specs.Part.{Part, block, count, due, input, sampled as «samples-part», buffered, just, everything, Leaves, SameInput, leaves-all, leaves-then}
 use Rattle.parts.specs.Lawful.{Lawful}
 use Rattle.parts.specs.Writer.{leaves-owner, leaves-running, leaves-due, leaves-input, leaves-value}
-use Rattle.parts.specs.Own.{Input, input-put, input-other, value-put, value-other, buffer-value}
-use Rattle.owned.specs.Owned.{belongs, rank, isNth}
-use Rattle.fire.specs.Partner.{partnerOutput, partnerVariable, variableOwner}
+use Rattle.parts.specs.Own.{Input, input-put, input-other, value-put}
+use Rattle.fire.specs.Partner.{partnerOutput, partnerVariable}
+use Rattle.fire.specs.Partners.{partner-output}
 use Rattle.fire.specs.Carry.{voice, speaks}
 use Rattle.fire.specs.Joined.{connected}
 use Rattle.fire.specs.Firing.{Marked, fire-leaves, fire-marked}
 use Rattle.take.specs.Take.{sample, samples, sampled, passTo, pass, passes, fireFound, relay, dtOf, isStart, delay, wake}
 use Rattle.take.specs.Joined.{joins, associated}
-
--- an interface's partner is one of its output variables
-pub partner-output : (T : List ℕ) (S : Shape) (v u : ℕ) → partnerVariable T S v ≡ one u → (u < variables S) × (flagAt T (variableFrame S u) ≡ 1)
-unfolding partnerVariable isNth belongs
-partner-output T S v u e =
-    let x = variableOwner T S v in
-    let n = rank T (S .outputs) 0 x v in
-    let w = first-means (isNth T (S .outputs) 1 x n) 0 (variables S) u e in
-    let h = both-left (belongs T (S .outputs) 1 x u) (eqb (rank T (S .outputs) 1 x u) n) (w .passes) in
-    let g = both-left (eqb (flagAt T (S .outputs + u)) 1) (eqb (fieldAt T (S .outputs + u) 0) x) h in
-    (let b = w .below in omega arith, eqb-true (flagAt T (variableFrame S u)) 1 g)
 
 module _ (T : List ℕ) (S : Shape) (k : Lawful T S) where
   -- ---- what it leaves
@@ -120,7 +109,7 @@ module _ (T : List ℕ) (S : Shape) (k : Lawful T S) where
             let q = eqb-true u v e in
             record {
               long = long′;
-              buffers = λ w. buffer-value S x u w (buffer S x u) ∙ m .buffers w;
+              buffers = λ w. buffer-putValue S x u w (buffer S x u) ∙ m .buffers w;
               is =
                   ap (λ (a : ℕ). value S y a) (sym q) ∙ value-put S x (m .long) u (buffer S x u) (k .is-good .association-variable j l) ∙ m .buffers u
                   ∙ ap (buffer S s) q ∙ sym (ap (λ (a : Bool). choose a (buffer S s v) (value S s v)) (either-true b));
@@ -128,9 +117,9 @@ module _ (T : List ℕ) (S : Shape) (k : Lawful T S) where
         by true false e =
             record {
               long = long′;
-              buffers = λ w. buffer-value S x u w (buffer S x u) ∙ m .buffers w;
+              buffers = λ w. buffer-putValue S x u w (buffer S x u) ∙ m .buffers w;
               is =
-                  value-other S x u v (buffer S x u) (λ q. eqb-false u v e (sym q)) ∙ m .is
+                  value-putValue S x u v (buffer S x u) (λ q. eqb-false u v e (sym q)) ∙ m .is
                   ∙ sym (ap (λ (a : Bool). choose a (buffer S s v) (value S s v)) (either-false b));
             }
         by false d e =

@@ -11,15 +11,15 @@ use borrow.Author.Tests.{eqb-true}
 use Rattle.walk.specs.Pick.{both-left, both-right, tri}
 use Rattle.walk.specs.Choose.{choose, choose-true, by-choose}
 use Rattle.walk.specs.Walk.{upTo, upTo-both, upTo-keeps}
-use Rattle.walk.specs.First.{Sought, one, missing, first-true}
+use Rattle.walk.specs.First.{Sought, one, missing}
 use Rattle.frames.specs.Frame.{flagAt, fieldAt}
 use Rattle.table.specs.declared.Shape.{Shape}
-use Rattle.store.specs.Layout.{variables, associations, variableFrame, associationFrame}
+use Rattle.store.specs.Layout.{associations, variableFrame, associationFrame}
 use Rattle.store.specs.Word.{value, putValue, buffer}
 use Rattle.store.specs.Laws.{buffer-putValue, value-putValue, putValue-swap, value-sampled}
 use Rattle.store.specs.Good.{Good}
-use Rattle.owned.specs.Owned.{belongs, rank, isNth}
-use Rattle.fire.specs.Partner.{variableOwner, partnerVariable}
+use Rattle.fire.specs.Partner.{partnerVariable}
+use Rattle.fire.specs.Partners.{partner-output}
 use Rattle.fire.specs.Carry.{voice, speaks}
 use Rattle.take.specs.Take.{sample, samples, passTo, pass, passes}
 
@@ -36,15 +36,6 @@ module _ (T : List ℕ) (S : Shape) (i : ℕ) where
   unfolding speaks
   of-event j h = eqb-true _ i (both-right (eqb (flagAt T (associationFrame S j)) 0) (eqb (fieldAt T (associationFrame S j) 0) i) h)
 
-  -- a partner is an output variable
-  partner-output : (v u : ℕ) → partnerVariable T S v ≡ one u → flagAt T (variableFrame S u) ≡ 1
-  unfolding partnerVariable isNth belongs
-  partner-output v u e =
-      let x = variableOwner T S v in
-      let k = rank T (S .outputs) 0 x v in
-      let b = both-left (belongs T (S .outputs) 1 x u) (eqb (rank T (S .outputs) 1 x u) k) (first-true (isNth T (S .outputs) 1 x k) 0 (variables S) u e) in
-      eqb-true _ 1 (both-left (eqb (flagAt T (variableFrame S u)) 1) (eqb (fieldAt T (variableFrame S u) 0) x) b)
-
   -- ---- an interface's event: sampling an input can change places with passing another
   module _ (g : Good T S) (j k : ℕ) (lj : j < associations S) (lk : k < associations S) (apart : k < j) (x : List ℕ) where
     swapped : (a b : Bool) (q : Sought) → speaks T S (voice 0 i) j ≡ a → speaks T S (voice 0 i) k ≡ b → partnerVariable T S (variableOf k) ≡ q
@@ -53,7 +44,7 @@ module _ (T : List ℕ) (S : Shape) (i : ℕ) where
     unfolding choose passTo
     swapped true true (one u) ej ek e =
         let once : variableOf k ≡ variableOf j → ⊥ = λ z. let h = g .association-once k j lk lj (of-input k ek ∙ sym (of-input j ej)) (of-event k ek ∙ sym (of-event j ej)) z in omega arith in
-        let other : u ≡ variableOf j → ⊥ = λ z. let a = partner-output (variableOf k) u e in let b = g .association-input j lj (of-input j ej) in let c : flagAt T (variableFrame S u) ≡ 0 = rw z b in omega arith in
+        let other : u ≡ variableOf j → ⊥ = λ z. let a = partner-output T S (variableOf k) u e .1 in let b = g .association-input j lj (of-input j ej) in let c : flagAt T (variableFrame S u) ≡ 0 = rw z b in omega arith in
         rw (buffer-putValue S x u (variableOf j) (value S x (variableOf k)), value-putValue S x (variableOf j) (variableOf k) (buffer S x (variableOf j)) once)
         (putValue-swap S x u (variableOf j) (value S x (variableOf k)) (buffer S x (variableOf j)) other)
     swapped true true missing ej ek e = refl
