@@ -4,7 +4,7 @@
  * A network of function blocks comes as a table of 12-byte frames, made by a compiler. The library checks the table, loads a store for it
  * and runs it by three calls: advance (time passes), arrival (an event comes from outside) and run (make moves). It has no memory of its
  * own, takes none from a heap and makes no system call: all that it knows is in the table and the store that the host lends. So a host may
- * keep any number of stores, copy them, and go on from a copy.
+ * keep any number of stores, copy them, and go on from a copy. Of the C library it needs memset alone.
  *
  * Every call is proved to do what the build definition (document 01) says, for every table, store, time and value list, and to read and
  * write nothing but what it is lent. None can be called at a wrong moment: what a call cannot do it refuses, by a number, and a refused

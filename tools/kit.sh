@@ -15,16 +15,19 @@ compile() {
     "$toolchain/bin/clang" --target=x86_64-unknown-linux-gnu -Wall -Wextra -Werror -pedantic -isystem tools/libc -Iinclude "$@"
 }
 
-# build_host SOURCE NAME: makes target/hosts/NAME of the source and the static library, which is proved and written first where it is older
-# than a file of the crates. Exit status 2, with what was said, where that fails.
+# The static library, proved and written where it is older than a file of the crates.
+build_library() {
+    [[ -e $archive && -z $(find crates crates.txt -newer "$archive" -print -quit) ]] || rt staticlib xaluudhiga
+}
+
+link() { # SOURCE PROGRAM
+    compile -std=c99 -O2 -fPIE -c "$1" -o "$2.o" &&
+        "$own/bin/rattle-link" --target x86_64-unknown-linux-gnu --toolchain "$toolchain" -o "$2" "$2.o" "$archive"
+}
+
+# build_host SOURCE NAME: makes target/hosts/NAME of the source and the library. Exit status 2, with what was said, where that fails.
 build_host() {
-    {
-        if [[ ! -e $archive || -n $(find crates crates.txt -newer "$archive" -print -quit) ]]; then
-            rt staticlib xaluudhiga
-        fi
-        compile -std=c99 -O2 -fPIE -c "$1" -o "$hosts/$2.o"
-        "$own/bin/rattle-link" --target x86_64-unknown-linux-gnu --toolchain "$toolchain" -o "$hosts/$2" "$hosts/$2.o" "$archive"
-    } >"$hosts/$2.log" 2>&1 || { cat "$hosts/$2.log" >&2; exit 2; }
+    { build_library && link "$1" "$hosts/$2"; } >"$hosts/$2.log" 2>&1 || { cat "$hosts/$2.log" >&2; exit 2; }
 }
 
 # run_host NAME: sets `command`, the words that run target/hosts/NAME as rt runs a program, with the kit's C library.

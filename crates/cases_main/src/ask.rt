@@ -62,7 +62,7 @@ fn tables() -> [u8; 468]
 
 // ---- The calls
 
-// Makes a call. Nothing is answered as the call before was.
+// Makes a call. Where there is none to make, the answer is still that of the call before.
 fn make(t: &[u8], store: &mut [u32], out: &mut [u8], call: Call, before: Answer) -> Answer {
     let value = [call.2; 1];
     let what = call.0;
