@@ -1,2 +1,3 @@
 pub mod Script
 pub mod Cases
+pub mod Step

@@ -2,7 +2,8 @@
 use denote.Ref.{now}
 use Rattle.number.specs.Bytes.{halfAt}
 use Prim.Native.Nat.{_≤_, _-_, _+_}
-use Rattle.lines.proofs.Splitting.{size-least, Printed, printed-none, printed-more, printed-all}
+use Rattle.lines.specs.Splits.{least-size}
+use Rattle.lines.proofs.Splitting.{Printed, printed-none, printed-more, printed-all}
 use Rattle.take.specs.Record.{recordSize}
 use lib.ListN.{length, length-take, length-drop}
 use mathlib.Core.Path.{_≡_, refl, ap, _∙_}
@@ -54,19 +55,19 @@ part-put-line-end : tie.Need-part-put-line-end Inv-loop μ-loop
 part-put-line-end c = search needs
 
 put-line-requires : tie.Need-put-line-requires Inv-loop μ-loop
-put-line-requires c κs = let w = c .before .before .before .before .before .before .loop .inv .1 in let k = size-least (now (c .before .before .before .before .before .before .before .before .before .before .args .t)) (c .before .before .before .before .before .before .before .before .before .before .args .s) (c .before .before .before .before .half-at .result) in simp (length-take, length-drop) (omega (arith, w .within, c .before .before .before .record-size .ensures .0))
+put-line-requires c κs = let w = c .before .before .before .before .before .before .loop .inv .1 in let k = least-size (now (c .before .before .before .before .before .before .before .before .before .before .args .t)) (c .before .before .before .before .before .before .before .before .before .before .args .s) (c .before .before .before .before .half-at .result) in simp (length-take, length-drop) (omega (arith, w .within, c .before .before .before .record-size .ensures .0))
 
 loop-less : tie.Need-loop-less Inv-loop μ-loop
-loop-less c = omega (arith, c .before .before .before .before .before .before .record-size .ensures .0, size-least (now (c .before .before .before .before .before .before .before .before .before .before .before .before .before .args .t)) (c .before .before .before .before .before .before .before .before .before .before .before .before .before .args .s) (c .before .before .before .before .before .before .before .half-at .result))
+loop-less c = omega (arith, c .before .before .before .before .before .before .record-size .ensures .0, least-size (now (c .before .before .before .before .before .before .before .before .before .before .before .before .before .args .t)) (c .before .before .before .before .before .before .before .before .before .before .before .before .before .args .s) (c .before .before .before .before .before .before .before .half-at .result))
 
 loop-again : tie.Need-loop-again Inv-loop μ-loop
-loop-again c = let w = c .before .before .before .before .before .before .before .before .before .loop .inv .1 in let k = size-least (now (c .before .before .before .before .before .before .before .before .before .before .before .before .before .args .t)) (c .before .before .before .before .before .before .before .before .before .before .before .before .before .args .s) (c .before .before .before .before .before .before .before .half-at .result) in (omega arith, printed-more _ _ _ _ _ _ _ w (c .before .before .before .before .before .before .record-size .result) (c .before .before .before .before .before .before .record-size .ensures .0 ∙ ap (recordSize (now (c .before .before .before .before .before .before .before .before .before .before .before .before .before .args .t)) (c .before .before .before .before .before .before .before .before .before .before .before .before .before .args .s)) (c .before .before .before .before .before .before .before .half-at .ensures .is)) _ _ (omega (arith, c .before .before .before .before .before .before .record-size .ensures .0)) (omega arith) (c .before .before .put-line .ensures .0) (c .before .before .put-line .ensures .1), omega arith)
+loop-again c = let w = c .before .before .before .before .before .before .before .before .before .loop .inv .1 in let k = least-size (now (c .before .before .before .before .before .before .before .before .before .before .before .before .before .args .t)) (c .before .before .before .before .before .before .before .before .before .before .before .before .before .args .s) (c .before .before .before .before .before .before .before .half-at .result) in (omega arith, printed-more _ _ _ _ _ _ _ w (c .before .before .before .before .before .before .record-size .result) (c .before .before .before .before .before .before .record-size .ensures .0 ∙ ap (recordSize (now (c .before .before .before .before .before .before .before .before .before .before .before .before .before .args .t)) (c .before .before .before .before .before .before .before .before .before .before .before .before .before .args .s)) (c .before .before .before .before .before .before .before .half-at .ensures .is)) _ _ (omega (arith, c .before .before .before .before .before .before .record-size .ensures .0)) (omega arith) (c .before .before .put-line .ensures .0) (c .before .before .put-line .ensures .1), omega arith)
 
 same-length-2 : tie.Need-same-length-2 Inv-loop μ-loop
 same-length-2 c = search needs
 
 returns-2 : tie.Need-returns-2 Inv-loop μ-loop
-returns-2 c = let w = c .before .loop .inv .1 in let k = size-least (now (c .before .before .before .before .before .args .t)) (c .before .before .before .before .before .args .s) (halfAt (now (c .before .before .before .before .before .args .out)) (c .before .loop .from + 2)) in let g = printed-all _ _ _ _ _ _ _ w (recordSize (now (c .before .before .before .before .before .args .t)) (c .before .before .before .before .before .args .s) (halfAt (now (c .before .before .before .before .before .args .out)) (c .before .loop .from + 2))) refl (omega arith) in (g .0, omega (arith, w .within), g .1)
+returns-2 c = let w = c .before .loop .inv .1 in let k = least-size (now (c .before .before .before .before .before .args .t)) (c .before .before .before .before .before .args .s) (halfAt (now (c .before .before .before .before .before .args .out)) (c .before .loop .from + 2)) in let g = printed-all _ _ _ _ _ _ _ w (recordSize (now (c .before .before .before .before .before .args .t)) (c .before .before .before .before .before .args .s) (halfAt (now (c .before .before .before .before .before .args .out)) (c .before .loop .from + 2))) refl (omega arith) in (g .0, omega (arith, w .within), g .1)
 
 pub put-all-spec : {M : Type 1} → statement M
 put-all-spec =
