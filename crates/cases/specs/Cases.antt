@@ -82,7 +82,7 @@ abbrev again : List Call
 again = load ∷ advance 100 ∷ arrival 0 100 [] ∷ run 100 ∷ advance 120 ∷ arrival 0 120 [] ∷ run 100 ∷ []
 
 -- every definition on the way, named once
-pub everything : Unit {0}
+unfoldable pub everything : Unit {0}
 unfolding session twice delays worked stored answered printed choose allTo anyTo countIf heldTo upTo firstFrom halfAt wordAt halfBytes wordBytes clip quotient least greatest operation guarded kindAt flagAt fieldAt seekTo orderAt ownedBy sortIs usedOf clearAt stepsOk bodyOk formOk initialState ofElement joins associates ofBasic maybeOwned usesOwn transits resultOf stepsOf acts stepsTo connectsEvents variableWith connectsData refersAs refersOk alike shares fresh sameEvent eightAtMost classAt partAt parts sourceShape sinkShape interfaceShape delayShape shapeAs shapeOk rulesOk lengthOk faultAt scanTo judge inputs outputs variables associations states transitions actions steps connections links need elementAt inputAt variableAt nowOf putNow runningElement currentEvent putOwner runningOf putRunning overwritten putOverwritten spareWord chartState putChartState dueFlag dueTime putDue waiting birthOf lastUpdate putInput value putValue buffer putBuffer belongs isNth partnerOutput partnerInput partnerVariable voiceOf speaks carriedBy carries counted mark connect copyIf fire beats better look «leastOf» sample passTo pass fireFound relay ticksIn dtOf isStart delay wake receive sampled taken head valueOf values recordOf recordSize heard guardHolds enabled transitionOf actionOf actionNumber change goIdle chart chartMove oneStep stepMove fireAny endMove act actMove fromBest nextBy nextOf blockMove moveBy move writtenBy written takenSize sizeBy spareOk restOk ownerOk stepOk modeOk runningOk chartOk dueOk elementOk inputOk variableOk partsOk wellFormed initial startValue start loaded after bytes another roomFor goesOn made stopAfter dueAt expired expire advanced wrongTime dueBefore beyondDue give arrived ofSource associated loadRefusal storeRefusal timeRefusal advanceRefusal eventRefusal arrivalRefusal
 everything = tt
 
