@@ -1,3 +1,4 @@
 pub mod Script
 pub mod Cases
 pub mod Claim
+pub mod Step

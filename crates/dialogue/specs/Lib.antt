@@ -1,1 +1,3 @@
 pub mod Program
+pub mod Whole
+pub mod Fits

@@ -23,11 +23,6 @@ use Rattle.take.specs.Record.{recordSize}
 use Rattle.lines.specs.Text.{lineOf, line-length}
 use Rattle.lines.specs.Record.{recordLines, recordsBy}
 
--- a record has a head
-pub size-least : (T : List ℕ) (S : Shape) (i : ℕ) → 16 ≤ recordSize T S i
-unfolding recordSize
-size-least T S i = omega arith
-
 module _ (size : ℕ → ℕ) (B : List ℕ) where
   abbrev whole : List ℕ
   whole = recordLines size B 0 (length B)

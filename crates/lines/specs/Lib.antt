@@ -3,3 +3,4 @@ pub mod Text
 pub mod Command
 pub mod Answer
 pub mod Record
+pub mod Splits

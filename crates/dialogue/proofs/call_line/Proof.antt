@@ -1,109 +1,79 @@
+-- `call_line` meets its contract: one case for each command.
 use Rattle.dialogue.proofs.Telling.{took-is, calm-more, call-by}
 use native.Mathlib.Omega.{arith}
 use borrow.Author.Needs.{needs}
 use Rattle.dialogue.proofs.call_line.Statement.{statement}
 use Rattle.dialogue.proofs.call_line.Tie as tie
-use Rattle.dialogue.proofs.call_line.Reads as reads
-use Rattle.dialogue.proofs.call_line.Lts as lts
-use Rattle.lines.proofs.command.line_command.Reads as line-command-reads
-use Rattle.dialogue.proofs.arrival_line.Reads as arrival-line-reads
-use Rattle.dialogue.proofs.malformed.Reads as malformed-reads
-use Rattle.dialogue.proofs.tell_advance.Reads as tell-advance-reads
-use Rattle.dialogue.proofs.tell_run.Reads as tell-run-reads
 
--- src/program.rt:278:9
 line-command-requires : tie.Need-line-command-requires
 line-command-requires c κs = search needs
 
--- src/program.rt:280:37
 enum-told : tie.Need-enum-told
 enum-told c = search needs
 
--- src/program.rt:280:27
 malformed-requires : tie.Need-malformed-requires
 malformed-requires c κs = search needs
 
--- src/program.rt:281:26
 enum-known-c : tie.Need-enum-known-c
 enum-known-c c = search needs
 
--- src/program.rt:281:33
 tell-advance-requires : tie.Need-tell-advance-requires
 tell-advance-requires c κs = search needs
 
--- src/program.rt:282:26
 enum-known-c-2 : tie.Need-enum-known-c-2
 enum-known-c-2 c = search needs
 
--- src/program.rt:283:13
 arrival-line-requires : tie.Need-arrival-line-requires
 arrival-line-requires c κs = search needs
 
--- src/program.rt:285:40
 enum-told-2 : tie.Need-enum-told-2
 enum-told-2 c = search needs
 
--- src/program.rt:285:30
 malformed-requires-2 : tie.Need-malformed-requires-2
 malformed-requires-2 c κs = search needs
 
--- src/program.rt:286:22
 enum-known-c-3 : tie.Need-enum-known-c-3
 enum-known-c-3 c = search needs
 
--- src/program.rt:286:33
 tell-run-requires : tie.Need-tell-run-requires
 tell-run-requires c κs = search needs
 
--- src/program.rt:267:1
 same-length : tie.Need-same-length
 same-length c = search needs
 
--- src/program.rt:267:1
 returns : tie.Need-returns
 returns c = (took-is (call-by _ _ _ _ _ (c .before .before .before .before .before .before .line-command .ensures) (c .before .before .before .before .enum-told .given .1)) (c .before .before .malformed .ensures .0 _ _ _), calm-more {m = 25} {n = 12313} (omega arith) (c .before .before .malformed .ensures .1))
 
--- src/program.rt:267:1
 same-length-2 : tie.Need-same-length-2
 same-length-2 c = search needs
 
--- src/program.rt:267:1
 same-length-3 : tie.Need-same-length-3
 same-length-3 c = search needs
 
--- src/program.rt:267:1
 returns-2 : tie.Need-returns-2
 returns-2 c = (took-is (call-by _ _ _ _ _ (c .before .before .before .before .before .before .before .before .before .before .line-command .ensures) (c .before .before .before .before .before .before .before .before .c .given .1)) (c .before .before .before .before .tell-advance .ensures .0 _), calm-more {m = 25} {n = 12313} (omega arith) (c .before .before .before .before .tell-advance .ensures .1))
 
--- src/program.rt:267:1
 same-length-4 : tie.Need-same-length-4
 same-length-4 c = search needs
 
--- src/program.rt:267:1
 same-length-5 : tie.Need-same-length-5
 same-length-5 c = search needs
 
--- src/program.rt:267:1
 returns-3 : tie.Need-returns-3
 returns-3 c = (took-is (call-by _ _ _ _ _ (c .before .before .before .before .before .before .before .before .before .before .line-command .ensures) (c .before .before .before .before .before .before .before .before .c2 .given .1)) (c .before .before .before .before .arrival-line .ensures .0), calm-more {m = 25} {n = 12313} (omega arith) (c .before .before .before .before .arrival-line .ensures .1))
 
--- src/program.rt:267:1
 same-length-6 : tie.Need-same-length-6
 same-length-6 c = search needs
 
--- src/program.rt:267:1
 returns-4 : tie.Need-returns-4
 returns-4 c = (took-is (call-by _ _ _ _ _ (c .before .before .before .before .before .before .line-command .ensures) (c .before .before .before .before .enum-told2 .given .1)) (c .before .before .malformed2 .ensures .0 _ _ _), calm-more {m = 25} {n = 12313} (omega arith) (c .before .before .malformed2 .ensures .1))
 
--- src/program.rt:267:1
 same-length-7 : tie.Need-same-length-7
 same-length-7 c = search needs
 
--- src/program.rt:267:1
 same-length-8 : tie.Need-same-length-8
 same-length-8 c = search needs
 
--- src/program.rt:267:1
 returns-5 : tie.Need-returns-5
 returns-5 c = (took-is (call-by _ _ _ _ _ (c .before .before .before .before .before .before .before .before .before .before .line-command .ensures) (c .before .before .before .before .before .before .before .before .c3 .given .1)) (c .before .before .before .before .tell-run .ensures .0 _), c .before .before .before .before .tell-run .ensures .1)
 

@@ -1,51 +1,37 @@
+-- `early_line` meets its contract by how the line begins.
 use Rattle.dialogue.proofs.Telling.{took-is, calm-more, opens-load, opens-not}
 use native.Mathlib.Omega.{arith}
 use borrow.Author.Needs.{needs}
 use Rattle.dialogue.proofs.early_line.Statement.{statement}
 use Rattle.dialogue.proofs.early_line.Tie as tie
-use Rattle.dialogue.proofs.early_line.Reads as reads
-use Rattle.dialogue.proofs.early_line.Lts as lts
-use Rattle.lines.proofs.line.opens.Reads as opens-reads
-use Rattle.dialogue.proofs.opening_line.Reads as opening-line-reads
-use Rattle.dialogue.proofs.table_line.Reads as table-line-reads
 
--- src/program.rt:368:8
 opens-requires : tie.Need-opens-requires
 opens-requires c κs = search needs
 
--- src/program.rt:369:9
 opening-line-requires : tie.Need-opening-line-requires
 opening-line-requires c κs = search needs
 
--- src/program.rt:369:9
 same-length : tie.Need-same-length
 same-length c = search needs
 
--- src/program.rt:369:9
 same-length-2 : tie.Need-same-length-2
 same-length-2 c = search needs
 
--- src/program.rt:369:9
 same-length-3 : tie.Need-same-length-3
 same-length-3 c = search needs
 
--- src/program.rt:369:9
 returns : tie.Need-returns
 returns c = (took-is (opens-load _ _ _ _ _ (c .before .before .before .before .before .before .before .before .before .opens .ensures) (c .before .before .before .before .before .before .before .before .if1 .taken)) (c .before .before .before .before .opening-line .ensures .0), c .before .before .before .before .opening-line .ensures .1)
 
--- src/program.rt:371:5
 table-line-requires : tie.Need-table-line-requires
 table-line-requires c κs = search needs
 
--- src/program.rt:357:1
 same-length-4 : tie.Need-same-length-4
 same-length-4 c = search needs
 
--- src/program.rt:357:1
 same-length-5 : tie.Need-same-length-5
 same-length-5 c = search needs
 
--- src/program.rt:357:1
 returns-2 : tie.Need-returns-2
 returns-2 c = (took-is (opens-not _ _ _ _ _ (c .before .before .before .before .before .before .before .before .opens .ensures) (c .before .before .before .before .before .before .before .if1 .left)) (c .before .before .before .before .table-line .ensures .0 _ _), calm-more {m = 25} {n = 12338} (omega arith) (c .before .before .before .before .table-line .ensures .1))
 

@@ -1,25 +1,20 @@
+-- `put_character` meets its contract: past the end nothing is set.
 use lib.Seq.{set-out}
 use mathlib.Core.Path.{sym}
 use denote.Ref.{now}
 use borrow.Author.Needs.{needs}
 use Rattle.dialogue.proofs.put_character.Statement.{statement}
 use Rattle.dialogue.proofs.put_character.Tie as tie
-use Rattle.dialogue.proofs.put_character.Reads as reads
-use Rattle.dialogue.proofs.put_character.Lts as lts
 
--- src/program.rt:402:9
 slice-write-line : tie.Need-slice-write-line
 slice-write-line c = search needs
 
--- src/program.rt:398:1
 same-length : tie.Need-same-length
 same-length c = search needs
 
--- src/program.rt:398:1
 returns : tie.Need-returns
 returns c = search needs
 
--- src/program.rt:398:1
 returns-2 : tie.Need-returns-2
 returns-2 c = sym (set-out (now (c .before .args .line)) (c .before .args .at) (c .before .args .b) (c .if1 .left))
 

@@ -1,3 +1,4 @@
+-- `put_run` meets its contract: the records, then the answer.
 use Rattle.table.specs.Judge.{judged}
 use Rattle.lines.specs.Record.{recordsBy}
 use Rattle.dialogue.proofs.Telling.{run-printed, stretch-short, records-of}
@@ -7,34 +8,22 @@ use denote.Ref.{now}
 use borrow.Author.Needs.{needs}
 use Rattle.dialogue.proofs.put_run.Statement.{statement}
 use Rattle.dialogue.proofs.put_run.Tie as tie
-use Rattle.dialogue.proofs.put_run.Reads as reads
-use Rattle.dialogue.proofs.put_run.Lts as lts
-use Rattle.lines.proofs.answer.put_answer.Reads as put-answer-reads
-use Rattle.dialogue.proofs.bytes_of.Reads as bytes-of-reads
-use Rattle.dialogue.proofs.stretch.Reads as stretch-reads
-use Rattle.lines.proofs.record.put_records.Reads as put-records-reads
 
--- src/program.rt:196:44
 bytes-of-requires : tie.Need-bytes-of-requires
 bytes-of-requires c κs = search needs
 
--- src/program.rt:196:31
 stretch-requires : tie.Need-stretch-requires
 stretch-requires c κs = search needs
 
--- src/program.rt:196:9
 put-records-requires : tie.Need-put-records-requires
 put-records-requires c κs = omega (arith, stretch-short (now (c .before .stretch .result)) (now (c .before .before .before .before .before .before .args .out)) (c .before .before .bytes-of .result) (c .before .stretch .ensures))
 
--- src/program.rt:197:5
 put-answer-requires : tie.Need-put-answer-requires
 put-answer-requires c κs = omega (arith, stretch-short (now (c .before .before .before .before .before .stretch .result)) (now (c .before .before .before .before .before .before .before .before .before .before .args .out)) (c .before .before .before .before .before .before .bytes-of .result) (c .before .before .before .before .before .stretch .ensures), c .before .before .before .put-records .ensures .1)
 
--- src/program.rt:192:1
 same-length : tie.Need-same-length
 same-length c = search needs
 
--- src/program.rt:192:1
 returns : tie.Need-returns
 returns c = records-of (now (c .before .before .before .before .before .before .before .before .before .before .before .before .before .args .t)) (now (c .before .before .before .before .before .before .before .before .stretch .result)) (now (c .before .before .before .before .before .before .before .before .before .before .before .before .before .args .out)) (c .before .before .before .before .before .before .before .before .before .before .before .before .before .args .a) (c .before .before .before .before .before .before .before .before .stretch .ensures) (c .before .before .before .before .before .before .before .before .before .bytes-of .ensures) (run-printed (recordsBy (judged (now (c .before .before .before .before .before .before .before .before .before .before .before .before .before .args .t))) (now (c .before .before .before .before .before .before .before .before .before .before .before .before .before .args .t)) (now (c .before .before .before .before .before .before .before .before .stretch .result))) _ _ _ (now (c .before .before .before .before .before .before .before .before .stretch .result)) (c .before .before .before .before .before .before .before .before .before .before .before .before .before .args .a) _ _ _ (length (now (c .before .before .before .before .before .before .before .before .before .before .before .before .before .args .out))) (c .before .before .before .before .before .before .put-records .ensures) (stretch-short (now (c .before .before .before .before .before .before .before .before .stretch .result)) (now (c .before .before .before .before .before .before .before .before .before .before .before .before .before .args .out)) (c .before .before .before .before .before .before .before .before .before .bytes-of .result) (c .before .before .before .before .before .before .before .before .stretch .ensures)) (c .before .before .put-answer .ensures))
 

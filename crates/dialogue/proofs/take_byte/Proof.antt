@@ -1,3 +1,4 @@
+-- `take_byte` meets its contract: the line that the byte ends, or one character more.
 use denote.Ref.{now}
 use Rattle.dialogue.proofs.Telling.{took-is, byte-line, byte-only, relined, stays, length-none, length-more, line-kept, line-more}
 use native.Mathlib.Omega.{arith}
@@ -5,67 +6,46 @@ use mathlib.Core.Path.{refl}
 use borrow.Author.Needs.{needs}
 use Rattle.dialogue.proofs.take_byte.Statement.{statement}
 use Rattle.dialogue.proofs.take_byte.Tie as tie
-use Rattle.dialogue.proofs.take_byte.Reads as reads
-use Rattle.dialogue.proofs.take_byte.Lts as lts
-use Rattle.dialogue.proofs.Session.with_line.Reads as with-line-reads
-use Rattle.dialogue.proofs.following.Reads as following-reads
-use Rattle.dialogue.proofs.put_character.Reads as put-character-reads
-use Rattle.dialogue.proofs.stretch.Reads as stretch-reads
-use Rattle.dialogue.proofs.take_line.Reads as take-line-reads
 
--- src/program.rt:421:45
 stretch-requires : tie.Need-stretch-requires
 stretch-requires c κs = search needs
 
--- src/program.rt:421:13
 take-line-requires : tie.Need-take-line-requires
 take-line-requires c κs = search needs
 
--- src/program.rt:422:9
 with-line-requires : tie.Need-with-line-requires
 with-line-requires c κs = search needs
 
--- src/program.rt:422:9
 same-length : tie.Need-same-length
 same-length c = search needs
 
--- src/program.rt:422:9
 same-length-2 : tie.Need-same-length-2
 same-length-2 c = search needs
 
--- src/program.rt:422:9
 same-length-3 : tie.Need-same-length-3
 same-length-3 c = search needs
 
--- src/program.rt:422:9
 same-length-4 : tie.Need-same-length-4
 same-length-4 c = search needs
 
--- src/program.rt:422:9
 same-length-5 : tie.Need-same-length-5
 same-length-5 c = search needs
 
--- src/program.rt:422:9
 returns : tie.Need-returns
 returns c = (took-is (byte-line _ _ _ _ _ _ (c .before .before .before .before .before .before .before .before .before .before .before .before .before .before .before .before .before .before .before .before .before .before .args .s .length) (now (c .before .before .before .before .before .before .before .before .before .before .before .before .before .before .before .before .before .before .before .before .before .before .args .line)) _ (c .before .before .before .before .before .before .before .before .before .before .before .stretch .ensures) (c .before .before .before .before .before .before .before .before .before .before .before .before .before .before .before .before .if1 .taken)) (relined (c .before .before .before .before .before .before .before .before .before .take-line .ensures .0) (c .with-line .ensures)), length-none _ _ _ (c .before .before .before .before .before .before .before .before .before .before .before .before .before .before .before .before .if1 .taken) (c .with-line .ensures .2), line-kept _ _ _ (c .before .before .before .before .before .before .before .before .before .before .before .before .before .before .before .before .if1 .taken), omega (arith, c .before .before .before .before .before .before .before .before .before .take-line .ensures .1 .room, c .with-line .ensures .3))
 
--- src/program.rt:424:9
 following-requires : tie.Need-following-requires
 following-requires c κs = search needs
 
--- src/program.rt:425:5
 put-character-requires : tie.Need-put-character-requires
 put-character-requires c κs = search needs
 
--- src/program.rt:426:5
 with-line-requires-2 : tie.Need-with-line-requires-2
 with-line-requires-2 c κs = search needs
 
--- src/program.rt:407:1
 same-length-6 : tie.Need-same-length-6
 same-length-6 c = search needs
 
--- src/program.rt:407:1
 returns-2 : tie.Need-returns-2
 returns-2 c = (took-is (byte-only _ _ _ _ _ _ (c .before .before .before .before .before .before .before .before .before .before .before .before .args .s .length) (now (c .before .before .before .before .before .before .before .before .before .before .before .before .args .line)) (c .before .before .before .before .before .before .if1 .left)) (relined (stays _ _ _ _ _ refl) (c .with-line2 .ensures)), length-more _ _ _ (c .before .before .before .before .before .before .if1 .left) (c .with-line2 .ensures .2) (c .before .before .before .before .before .following .ensures), line-more _ _ _ _ (c .before .before .before .before .before .before .if1 .left) (c .before .before .before .put-character .ensures), omega (arith, c .with-line2 .ensures .3))
 

@@ -1,3 +1,4 @@
+-- `take_end` meets its contract: the line that is left, if there is one, then the end.
 use denote.Ref.{now}
 use Rattle.dialogue.proofs.Telling.{took-is, took-then, last-none, last-line}
 use Rattle.dialogue.specs.Program.{lineDeed}
@@ -6,61 +7,43 @@ use mathlib.Core.Path.{ap}
 use borrow.Author.Needs.{needs}
 use Rattle.dialogue.proofs.take_end.Statement.{statement}
 use Rattle.dialogue.proofs.take_end.Tie as tie
-use Rattle.dialogue.proofs.take_end.Reads as reads
-use Rattle.dialogue.proofs.take_end.Lts as lts
-use Rattle.dialogue.proofs.stretch.Reads as stretch-reads
-use Rattle.dialogue.proofs.take_line.Reads as take-line-reads
-use Rattle.dialogue.proofs.take_none.Reads as take-none-reads
 
--- src/program.rt:457:9
 take-none-requires : tie.Need-take-none-requires
 take-none-requires c κs = search needs
 
--- src/program.rt:457:9
 same-length : tie.Need-same-length
 same-length c = search needs
 
--- src/program.rt:457:9
 same-length-2 : tie.Need-same-length-2
 same-length-2 c = search needs
 
--- src/program.rt:457:9
 same-length-3 : tie.Need-same-length-3
 same-length-3 c = search needs
 
--- src/program.rt:457:9
 returns : tie.Need-returns
 returns c = (took-is (last-none _ _ _ _ _ _ _ (c .before .before .before .before .before .before .before .before .if1 .taken)) (c .before .before .before .before .take-none .ensures .0 _), omega (arith, c .before .before .before .before .take-none .ensures .1 .room))
 
--- src/program.rt:459:41
 stretch-requires : tie.Need-stretch-requires
 stretch-requires c κs = search needs
 
--- src/program.rt:459:9
 take-line-requires : tie.Need-take-line-requires
 take-line-requires c κs = search needs
 
--- src/program.rt:460:5
 take-none-requires-2 : tie.Need-take-none-requires-2
 take-none-requires-2 c κs = search needs
 
--- src/program.rt:444:1
 same-length-4 : tie.Need-same-length-4
 same-length-4 c = search needs
 
--- src/program.rt:444:1
 same-length-5 : tie.Need-same-length-5
 same-length-5 c = search needs
 
--- src/program.rt:444:1
 same-length-6 : tie.Need-same-length-6
 same-length-6 c = search needs
 
--- src/program.rt:444:1
 same-length-7 : tie.Need-same-length-7
 same-length-7 c = search needs
 
--- src/program.rt:444:1
 returns-2 : tie.Need-returns-2
 returns-2 c = let w = c .before .before .before .before .before .before .before .before .before .before .before .before .before .before .before .before .take-line .ensures .0 in (took-is (last-line _ _ _ _ _ _ _ (c .before .before .before .before .before .before .before .before .before .before .before .before .before .before .before .before .before .before .before .before .before .before .if1 .left) (ap (lineDeed (c .before .before .before .before .before .before .before .before .before .before .before .before .before .before .before .before .before .before .before .before .before .before .before .before .before .before .before .before .args .s .phase) (c .before .before .before .before .before .before .before .before .before .before .before .before .before .before .before .before .before .before .before .before .before .before .before .before .before .before .before .before .args .s .end) (now (c .before .before .before .before .before .before .before .before .before .before .before .before .before .before .before .before .before .before .before .before .before .before .before .before .before .before .before .before .args .t)) (now (c .before .before .before .before .before .before .before .before .before .before .before .before .before .before .before .before .before .before .before .before .before .before .before .before .before .before .before .before .args .store)) (now (c .before .before .before .before .before .before .before .before .before .before .before .before .before .before .before .before .before .before .before .before .before .before .before .before .before .before .before .before .args .values))) (c .before .before .before .before .before .before .before .before .before .before .before .before .before .before .before .before .before .before .stretch .ensures)) (w .phase-is) (w .end-is) (w .table-is) (w .store-is) (w .values-is)) (took-then w (c .before .before .before .before .take-none2 .ensures .0 _)), omega (arith, c .before .before .before .before .before .before .before .before .before .before .before .before .before .before .before .before .take-line .ensures .1 .room, c .before .before .before .before .take-none2 .ensures .1 .room))
 

@@ -1,103 +1,76 @@
+-- `take_line` meets its contract: one case for each phase.
 use Rattle.dialogue.proofs.Telling.{took-is, calm-more, calm-none, line-by, stays}
 use native.Mathlib.Omega.{arith}
 use borrow.Author.Needs.{needs}
 use Rattle.dialogue.proofs.take_line.Statement.{statement}
 use Rattle.dialogue.proofs.take_line.Tie as tie
-use Rattle.dialogue.proofs.take_line.Reads as reads
-use Rattle.dialogue.proofs.take_line.Lts as lts
-use Rattle.dialogue.proofs.call_line.Reads as call-line-reads
-use Rattle.dialogue.proofs.early_line.Reads as early-line-reads
-use Rattle.dialogue.proofs.value_line.Reads as value-line-reads
 
--- src/program.rt:388:36
 enum-told : tie.Need-enum-told
 enum-told c = search needs
 
--- src/program.rt:388:25
 early-line-requires : tie.Need-early-line-requires
 early-line-requires c κs = search needs
 
--- src/program.rt:389:35
 enum-told-2 : tie.Need-enum-told-2
 enum-told-2 c = search needs
 
--- src/program.rt:389:25
 call-line-requires : tie.Need-call-line-requires
 call-line-requires c κs = search needs
 
--- src/program.rt:390:23
 enum-known-phase : tie.Need-enum-known-phase
 enum-known-phase c = search needs
 
--- src/program.rt:391:13
 value-line-requires : tie.Need-value-line-requires
 value-line-requires c κs = search needs
 
--- src/program.rt:393:27
 enum-told-3 : tie.Need-enum-told-3
 enum-told-3 c = search needs
 
--- src/program.rt:375:1
 same-length : tie.Need-same-length
 same-length c = search needs
 
--- src/program.rt:375:1
 same-length-2 : tie.Need-same-length-2
 same-length-2 c = search needs
 
--- src/program.rt:375:1
 same-length-3 : tie.Need-same-length-3
 same-length-3 c = search needs
 
--- src/program.rt:375:1
 same-length-4 : tie.Need-same-length-4
 same-length-4 c = search needs
 
--- src/program.rt:375:1
 returns : tie.Need-returns
 returns c = (took-is (line-by _ _ _ _ _ (c .before .before .before .before .before .before .before .before .before .before .before .enum-told .given .1)) (c .before .before .before .before .before .before .early-line .ensures .0), c .before .before .before .before .before .before .early-line .ensures .1)
 
--- src/program.rt:375:1
 same-length-5 : tie.Need-same-length-5
 same-length-5 c = search needs
 
--- src/program.rt:375:1
 same-length-6 : tie.Need-same-length-6
 same-length-6 c = search needs
 
--- src/program.rt:375:1
 same-length-7 : tie.Need-same-length-7
 same-length-7 c = search needs
 
--- src/program.rt:375:1
 same-length-8 : tie.Need-same-length-8
 same-length-8 c = search needs
 
--- src/program.rt:375:1
 returns-2 : tie.Need-returns-2
 returns-2 c = (took-is (line-by _ _ _ _ _ (c .before .before .before .before .before .before .before .before .before .enum-told2 .given .1)) (c .before .before .before .before .call-line .ensures .0), calm-more {m = 12313} {n = 12338} (omega arith) (c .before .before .before .before .call-line .ensures .1))
 
--- src/program.rt:375:1
 same-length-9 : tie.Need-same-length-9
 same-length-9 c = search needs
 
--- src/program.rt:375:1
 same-length-10 : tie.Need-same-length-10
 same-length-10 c = search needs
 
--- src/program.rt:375:1
 same-length-11 : tie.Need-same-length-11
 same-length-11 c = search needs
 
--- src/program.rt:375:1
 same-length-12 : tie.Need-same-length-12
 same-length-12 c = search needs
 
--- src/program.rt:375:1
 returns-3 : tie.Need-returns-3
 returns-3 c = (took-is (line-by _ _ _ _ _ (c .before .before .before .before .before .before .before .before .before .before .before .before .phase .given .1)) (c .before .before .before .before .before .before .value-line .ensures .0), calm-more {m = 25} {n = 12338} (omega arith) (c .before .before .before .before .before .before .value-line .ensures .1))
 
--- src/program.rt:375:1
 returns-4 : tie.Need-returns-4
 returns-4 c = (took-is (line-by _ _ _ _ _ (c .enum-told3 .given .1)) (stays _ _ _ _ _ (c .enum-told3 .given .1)), calm-none _ _)
 

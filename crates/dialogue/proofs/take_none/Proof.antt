@@ -1,61 +1,45 @@
+-- `take_none` meets its contract: one case for each phase.
 use Rattle.dialogue.proofs.Telling.{took-is, calm-none, end-by, stays}
 use borrow.Author.Needs.{needs}
 use Rattle.dialogue.proofs.take_none.Statement.{statement}
 use Rattle.dialogue.proofs.take_none.Tie as tie
-use Rattle.dialogue.proofs.take_none.Reads as reads
-use Rattle.dialogue.proofs.take_none.Lts as lts
-use Rattle.dialogue.proofs.malformed.Reads as malformed-reads
-use Rattle.dialogue.proofs.tell_load.Reads as tell-load-reads
 
--- src/program.rt:436:38
 enum-told : tie.Need-enum-told
 enum-told c = search needs
 
--- src/program.rt:436:25
 tell-load-requires : tie.Need-tell-load-requires
 tell-load-requires c κs = search needs
 
--- src/program.rt:437:25
 enum-told-2 : tie.Need-enum-told-2
 enum-told-2 c = search needs
 
--- src/program.rt:438:48
 enum-told-3 : tie.Need-enum-told-3
 enum-told-3 c = search needs
 
--- src/program.rt:438:38
 malformed-requires : tie.Need-malformed-requires
 malformed-requires c κs = search needs
 
--- src/program.rt:439:27
 enum-told-4 : tie.Need-enum-told-4
 enum-told-4 c = search needs
 
--- src/program.rt:430:1
 same-length : tie.Need-same-length
 same-length c = search needs
 
--- src/program.rt:430:1
 same-length-2 : tie.Need-same-length-2
 same-length-2 c = search needs
 
--- src/program.rt:430:1
 returns : tie.Need-returns
 returns c = (λ W. took-is (end-by _ _ _ W (c .before .before .before .before .before .before .before .enum-told .given .1)) (c .before .before .before .before .tell-load .ensures .0 W), c .before .before .before .before .tell-load .ensures .1)
 
--- src/program.rt:430:1
 returns-2 : tie.Need-returns-2
 returns-2 c = (λ W. took-is (end-by _ _ _ W (c .enum-told2 .given .1)) (stays _ _ _ W _ (c .enum-told2 .given .1)), calm-none _ _)
 
--- src/program.rt:430:1
 same-length-3 : tie.Need-same-length-3
 same-length-3 c = search needs
 
--- src/program.rt:430:1
 returns-3 : tie.Need-returns-3
 returns-3 c = (λ W. took-is (end-by _ _ _ W (c .before .before .before .before .enum-told3 .given .1)) (c .before .before .malformed .ensures .0 _ _ W), c .before .before .malformed .ensures .1)
 
--- src/program.rt:430:1
 returns-4 : tie.Need-returns-4
 returns-4 c = (λ W. took-is (end-by _ _ _ W (c .enum-told4 .given .1)) (stays _ _ _ W _ (c .enum-told4 .given .1)), calm-none _ _)
 

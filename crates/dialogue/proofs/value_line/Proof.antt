@@ -1,102 +1,75 @@
+-- `value_line` meets its contract: one case for each command.
 use Rattle.dialogue.proofs.Telling.{took-is, value-by}
 use borrow.Author.Needs.{needs}
 use Rattle.dialogue.proofs.value_line.Statement.{statement}
 use Rattle.dialogue.proofs.value_line.Tie as tie
-use Rattle.dialogue.proofs.value_line.Reads as reads
-use Rattle.dialogue.proofs.value_line.Lts as lts
-use Rattle.lines.proofs.command.line_command.Reads as line-command-reads
-use Rattle.dialogue.proofs.got_value.Reads as got-value-reads
-use Rattle.dialogue.proofs.malformed.Reads as malformed-reads
 
--- src/program.rt:346:9
 line-command-requires : tie.Need-line-command-requires
 line-command-requires c κs = search needs
 
--- src/program.rt:348:37
 enum-told : tie.Need-enum-told
 enum-told c = search needs
 
--- src/program.rt:348:27
 malformed-requires : tie.Need-malformed-requires
 malformed-requires c κs = search needs
 
--- src/program.rt:349:42
 enum-told-2 : tie.Need-enum-told-2
 enum-told-2 c = search needs
 
--- src/program.rt:349:32
 malformed-requires-2 : tie.Need-malformed-requires-2
 malformed-requires-2 c κs = search needs
 
--- src/program.rt:350:48
 enum-told-3 : tie.Need-enum-told-3
 enum-told-3 c = search needs
 
--- src/program.rt:350:38
 malformed-requires-3 : tie.Need-malformed-requires-3
 malformed-requires-3 c κs = search needs
 
--- src/program.rt:351:24
 enum-known-c : tie.Need-enum-known-c
 enum-known-c c = search needs
 
--- src/program.rt:351:30
 got-value-requires : tie.Need-got-value-requires
 got-value-requires c κs = search needs
 
--- src/program.rt:352:38
 enum-told-4 : tie.Need-enum-told-4
 enum-told-4 c = search needs
 
--- src/program.rt:352:28
 malformed-requires-4 : tie.Need-malformed-requires-4
 malformed-requires-4 c κs = search needs
 
--- src/program.rt:331:1
 same-length : tie.Need-same-length
 same-length c = search needs
 
--- src/program.rt:331:1
 returns : tie.Need-returns
 returns c = (took-is (value-by _ _ _ _ _ _ _ _ _ (c .before .before .before .before .before .before .line-command .ensures) (c .before .before .before .before .enum-told .given .1)) (c .before .before .malformed .ensures .0 _ _ _), c .before .before .malformed .ensures .1)
 
--- src/program.rt:331:1
 same-length-2 : tie.Need-same-length-2
 same-length-2 c = search needs
 
--- src/program.rt:331:1
 returns-2 : tie.Need-returns-2
 returns-2 c = (took-is (value-by _ _ _ _ _ _ _ _ _ (c .before .before .before .before .before .before .line-command .ensures) (c .before .before .before .before .enum-told2 .given .1)) (c .before .before .malformed2 .ensures .0 _ _ _), c .before .before .malformed2 .ensures .1)
 
--- src/program.rt:331:1
 same-length-3 : tie.Need-same-length-3
 same-length-3 c = search needs
 
--- src/program.rt:331:1
 returns-3 : tie.Need-returns-3
 returns-3 c = (took-is (value-by _ _ _ _ _ _ _ _ _ (c .before .before .before .before .before .before .line-command .ensures) (c .before .before .before .before .enum-told3 .given .1)) (c .before .before .malformed3 .ensures .0 _ _ _), c .before .before .malformed3 .ensures .1)
 
--- src/program.rt:331:1
 same-length-4 : tie.Need-same-length-4
 same-length-4 c = search needs
 
--- src/program.rt:331:1
 same-length-5 : tie.Need-same-length-5
 same-length-5 c = search needs
 
--- src/program.rt:331:1
 same-length-6 : tie.Need-same-length-6
 same-length-6 c = search needs
 
--- src/program.rt:331:1
 returns-4 : tie.Need-returns-4
 returns-4 c = (took-is (value-by _ _ _ _ _ _ _ _ _ (c .before .before .before .before .before .before .before .before .before .before .before .before .before .line-command .ensures) (c .before .before .before .before .before .before .before .before .before .before .before .c .given .1)) (c .before .before .before .before .before .before .got-value .ensures .0), c .before .before .before .before .before .before .got-value .ensures .1)
 
--- src/program.rt:331:1
 same-length-7 : tie.Need-same-length-7
 same-length-7 c = search needs
 
--- src/program.rt:331:1
 returns-5 : tie.Need-returns-5
 returns-5 c = (took-is (value-by _ _ _ _ _ _ _ _ _ (c .before .before .before .before .before .before .line-command .ensures) (c .before .before .before .before .enum-told4 .given .1)) (c .before .before .malformed4 .ensures .0 _ _ _), c .before .before .malformed4 .ensures .1)
 

@@ -1,3 +1,4 @@
+-- `take_all` is safe and ends. The invariant: there is room for what the next line may print.
 use lib.ListN.{length}
 use mathlib.Core.Path.{_≡_, refl}
 use native.Mathlib.Omega.{arith}
@@ -5,10 +6,6 @@ use Prim.Native.Nat.{_≤_, _-_, _+_}
 use borrow.Author.Needs.{needs}
 use Rattle.step.proofs.take_all.Statement.{statement}
 use Rattle.step.proofs.take_all.Tie as tie
-use Rattle.step.proofs.take_all.Reads as reads
-use Rattle.step.proofs.take_all.Lts as lts
-use Rattle.dialogue.proofs.take_byte.Reads as take-byte-reads
-use Rattle.step.proofs.make_room.Reads as make-room-reads
 
 abbrev Inv-loop : tie.InvT-loop
 Inv-loop table₀ store₀ values₀ line₀ input text₀ n s₀ i₀ table store values line text s i = (i ≤ length input) × (s .at + 16384 ≤ length text) × (length text ≡ length text₀) × (length table ≡ length table₀) × (length store ≡ length store₀) × (length values ≡ length values₀) × (length line ≡ length line₀)
@@ -16,55 +13,42 @@ Inv-loop table₀ store₀ values₀ line₀ input text₀ n s₀ i₀ table sto
 abbrev μ-loop : tie.MeasureT-loop
 μ-loop table₀ store₀ values₀ line₀ input text₀ n s₀ i₀ table store values line text s i = length input - i
 
--- src/main.rt:51:5
 loop-holds : tie.Need-loop-holds Inv-loop μ-loop
 loop-holds c = (omega arith, omega arith, refl, refl, refl, refl, refl)
 
--- src/main.rt:52:55
 shared-slice-read-take-byte : tie.Need-shared-slice-read-take-byte Inv-loop μ-loop
 shared-slice-read-take-byte c = search needs
 
--- src/main.rt:52:13
 take-byte-requires : tie.Need-take-byte-requires Inv-loop μ-loop
 take-byte-requires c κs = search needs
 
--- src/main.rt:53:9
 make-room-requires : tie.Need-make-room-requires Inv-loop μ-loop
 make-room-requires c κs = search needs
 
--- src/main.rt:54:9
 add-i : tie.Need-add-i Inv-loop μ-loop
 add-i c = let g = c .before .before .before .before .before .before .before .before .before .before .before .before .before .before .before .before .before .before .before .before .before .before .before .before .before .before .before .good in let h = c .before .before .before .before .before .before .before .before .before .before .before .before .before .before .before .before .before .before .before .loop-test in omega arith
 
--- src/main.rt:51:5
 loop-less : tie.Need-loop-less Inv-loop μ-loop
 loop-less c = search needs
 
--- src/main.rt:51:5
 loop-again : tie.Need-loop-again Inv-loop μ-loop
 loop-again c = search needs
 
--- src/main.rt:36:1
 same-length : tie.Need-same-length Inv-loop μ-loop
 same-length c = search needs
 
--- src/main.rt:36:1
 same-length-2 : tie.Need-same-length-2 Inv-loop μ-loop
 same-length-2 c = search needs
 
--- src/main.rt:36:1
 same-length-3 : tie.Need-same-length-3 Inv-loop μ-loop
 same-length-3 c = search needs
 
--- src/main.rt:36:1
 same-length-4 : tie.Need-same-length-4 Inv-loop μ-loop
 same-length-4 c = search needs
 
--- src/main.rt:36:1
 same-length-5 : tie.Need-same-length-5 Inv-loop μ-loop
 same-length-5 c = search needs
 
--- src/main.rt:36:1
 returns : tie.Need-returns Inv-loop μ-loop
 returns c = search needs
 

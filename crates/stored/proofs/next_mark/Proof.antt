@@ -1,11 +1,9 @@
+-- `next_mark` is safe and ends: the measure is what is left of the bytes.
 use lib.ListN.{length}
-use native.Mathlib.Omega.{arith}
 use Prim.Native.Nat.{_≤_, _-_}
 use borrow.Author.Needs.{needs}
 use Rattle.stored.proofs.next_mark.Statement.{statement}
 use Rattle.stored.proofs.next_mark.Tie as tie
-use Rattle.stored.proofs.next_mark.Reads as reads
-use Rattle.stored.proofs.next_mark.Lts as lts
 
 abbrev Inv-loop : tie.InvT-loop
 Inv-loop all from n i₀ i = (from ≤ i) × (i ≤ length all)
@@ -13,31 +11,24 @@ Inv-loop all from n i₀ i = (from ≤ i) × (i ≤ length all)
 abbrev μ-loop : tie.MeasureT-loop
 μ-loop all from n i₀ i = length all - i
 
--- src/main.rt:21:5
 loop-holds : tie.Need-loop-holds Inv-loop μ-loop
 loop-holds c = search needs
 
--- src/main.rt:22:12
 shared-slice-read-if1 : tie.Need-shared-slice-read-if1 Inv-loop μ-loop
 shared-slice-read-if1 c = search needs
 
--- src/main.rt:23:13
 returns : tie.Need-returns Inv-loop μ-loop
 returns c = search needs
 
--- src/main.rt:25:9
 add-i : tie.Need-add-i Inv-loop μ-loop
 add-i c = search needs
 
--- src/main.rt:21:5
 loop-less : tie.Need-loop-less Inv-loop μ-loop
 loop-less c = search needs
 
--- src/main.rt:21:5
 loop-again : tie.Need-loop-again Inv-loop μ-loop
 loop-again c = search needs
 
--- src/main.rt:15:1
 returns-2 : tie.Need-returns-2 Inv-loop μ-loop
 returns-2 c = search needs
 

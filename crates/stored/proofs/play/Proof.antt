@@ -1,3 +1,4 @@
+-- `play` is safe and ends: the measure is what is left of the session.
 use lib.ListN.{length}
 use mathlib.Core.Path.{_≡_, refl}
 use native.Mathlib.Omega.{arith}
@@ -5,11 +6,6 @@ use Prim.Native.Nat.{_≤_, _-_}
 use borrow.Author.Needs.{needs}
 use Rattle.stored.proofs.play.Statement.{statement}
 use Rattle.stored.proofs.play.Tie as tie
-use Rattle.stored.proofs.play.Reads as reads
-use Rattle.stored.proofs.play.Lts as lts
-use Rattle.dialogue.proofs.Session.new.Reads as new-reads
-use Rattle.stored.proofs.take.Reads as take-reads
-use Rattle.stored.proofs.take_rest.Reads as take-rest-reads
 
 abbrev Inv-loop : tie.InvT-loop
 Inv-loop table₀ store₀ values₀ line₀ input text₀ n s₀ i₀ table store values line text s i = (i ≤ length input) × (length text ≡ length text₀) × (length table ≡ length table₀) × (length store ≡ length store₀) × (length values ≡ length values₀) × (length line ≡ length line₀)
@@ -17,59 +13,45 @@ Inv-loop table₀ store₀ values₀ line₀ input text₀ n s₀ i₀ table sto
 abbrev μ-loop : tie.MeasureT-loop
 μ-loop table₀ store₀ values₀ line₀ input text₀ n s₀ i₀ table store values line text s i = length input - i
 
--- src/main.rt:124:9
 new-requires : tie.Need-new-requires Inv-loop μ-loop
 new-requires c κs = search needs
 
--- src/main.rt:126:5
 loop-holds : tie.Need-loop-holds Inv-loop μ-loop
 loop-holds c = (omega arith, refl, refl, refl, refl, refl)
 
--- src/main.rt:127:46
 shared-slice-read-take : tie.Need-shared-slice-read-take Inv-loop μ-loop
 shared-slice-read-take c = search needs
 
--- src/main.rt:127:9
 take-requires : tie.Need-take-requires Inv-loop μ-loop
 take-requires c κs = search needs
 
--- src/main.rt:128:9
 add-i : tie.Need-add-i Inv-loop μ-loop
 add-i c = let g = c .before .before .before .before .before .before .before .before .before .before .before .before .before .before .before .before .before .before .before .before .before .before .before .before .before .before .good in let h = c .before .before .before .before .before .before .before .before .before .before .before .before .before .before .before .before .before .loop-test in omega arith
 
--- src/main.rt:126:5
 loop-less : tie.Need-loop-less Inv-loop μ-loop
 loop-less c = search needs
 
--- src/main.rt:126:5
 loop-again : tie.Need-loop-again Inv-loop μ-loop
 loop-again c = search needs
 
--- src/main.rt:130:9
 take-rest-requires : tie.Need-take-rest-requires Inv-loop μ-loop
 take-rest-requires c κs = search needs
 
--- src/main.rt:115:1
 same-length : tie.Need-same-length Inv-loop μ-loop
 same-length c = search needs
 
--- src/main.rt:115:1
 same-length-2 : tie.Need-same-length-2 Inv-loop μ-loop
 same-length-2 c = search needs
 
--- src/main.rt:115:1
 same-length-3 : tie.Need-same-length-3 Inv-loop μ-loop
 same-length-3 c = search needs
 
--- src/main.rt:115:1
 same-length-4 : tie.Need-same-length-4 Inv-loop μ-loop
 same-length-4 c = search needs
 
--- src/main.rt:115:1
 same-length-5 : tie.Need-same-length-5 Inv-loop μ-loop
 same-length-5 c = search needs
 
--- src/main.rt:115:1
 returns : tie.Need-returns Inv-loop μ-loop
 returns c = search needs
 

@@ -1,12 +1,10 @@
+-- `same` is safe and ends: the measure is what is left of the bytes.
 use lib.ListN.{length}
-use native.Mathlib.Omega.{arith}
 use mathlib.Core.Path.{_≡_}
 use Prim.Native.Nat.{_≤_, _-_}
 use borrow.Author.Needs.{needs}
 use Rattle.stored.proofs.same.Statement.{statement}
 use Rattle.stored.proofs.same.Tie as tie
-use Rattle.stored.proofs.same.Reads as reads
-use Rattle.stored.proofs.same.Lts as lts
 
 abbrev Inv-loop : tie.InvT-loop
 Inv-loop a b n i₀ i = (i ≤ length a) × (length a ≡ length b)
@@ -14,39 +12,30 @@ Inv-loop a b n i₀ i = (i ≤ length a) × (length a ≡ length b)
 abbrev μ-loop : tie.MeasureT-loop
 μ-loop a b n i₀ i = length a - i
 
--- src/main.rt:45:9
 returns : tie.Need-returns Inv-loop μ-loop
 returns c = search needs
 
--- src/main.rt:48:5
 loop-holds : tie.Need-loop-holds Inv-loop μ-loop
 loop-holds c = search needs
 
--- src/main.rt:49:12
 shared-slice-read-if2 : tie.Need-shared-slice-read-if2 Inv-loop μ-loop
 shared-slice-read-if2 c = search needs
 
--- src/main.rt:49:20
 shared-slice-read-if2-2 : tie.Need-shared-slice-read-if2-2 Inv-loop μ-loop
 shared-slice-read-if2-2 c = search needs
 
--- src/main.rt:50:13
 returns-2 : tie.Need-returns-2 Inv-loop μ-loop
 returns-2 c = search needs
 
--- src/main.rt:52:9
 add-i : tie.Need-add-i Inv-loop μ-loop
 add-i c = search needs
 
--- src/main.rt:48:5
 loop-less : tie.Need-loop-less Inv-loop μ-loop
 loop-less c = search needs
 
--- src/main.rt:48:5
 loop-again : tie.Need-loop-again Inv-loop μ-loop
 loop-again c = search needs
 
--- src/main.rt:42:1
 returns-3 : tie.Need-returns-3 Inv-loop μ-loop
 returns-3 c = search needs
 

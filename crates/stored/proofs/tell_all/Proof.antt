@@ -1,20 +1,12 @@
+-- `tell_all` is safe and ends: the measure is what is left of the bytes.
 use mathlib.Core.Logic.{⊎-elim}
 use native.Mathlib.Nat.{eq-or-lt-of-le}
 use Prim.Native.Nat.{_≤_, _-_, ℕ, _<_}
 use lib.ListN.{length}
 use native.Mathlib.Omega.{arith}
-use Prim.Native.Nat.{_≤_, _-_}
 use borrow.Author.Needs.{needs}
 use Rattle.stored.proofs.tell_all.Statement.{statement}
 use Rattle.stored.proofs.tell_all.Tie as tie
-use Rattle.stored.proofs.tell_all.Reads as reads
-use Rattle.stored.proofs.tell_all.Lts as lts
-use Rattle.stored.proofs.after_mark.Reads as after-mark-reads
-use Rattle.stored.proofs.counted.Reads as counted-reads
-use Rattle.stored.proofs.next_mark.Reads as next-mark-reads
-use Rattle.stored.proofs.one.Reads as one-reads
-use Rattle.stored.proofs.tell.Reads as tell-reads
-use Rattle.stored.proofs.total.Reads as total-reads
 
 -- a mark before the end takes the place on
 past : (from to n answer : ℕ) → from < n → from ≤ to → to ≤ n → to ≤ answer → (to < n → to < answer) → from < answer
@@ -26,55 +18,42 @@ Inv-loop all n from₀ k₀ right₀ from k right = (from ≤ length all) × (k 
 abbrev μ-loop : tie.MeasureT-loop
 μ-loop all n from₀ k₀ right₀ from k right = length all - from
 
--- src/main.rt:201:5
 loop-holds : tie.Need-loop-holds Inv-loop μ-loop
 loop-holds c = search needs
 
--- src/main.rt:202:13
 next-mark-requires : tie.Need-next-mark-requires Inv-loop μ-loop
 next-mark-requires c κs = search needs
 
--- src/main.rt:203:13
 after-mark-requires : tie.Need-after-mark-requires Inv-loop μ-loop
 after-mark-requires c κs = search needs
 
--- src/main.rt:204:13
 next-mark-requires-2 : tie.Need-next-mark-requires-2 Inv-loop μ-loop
 next-mark-requires-2 c κs = search needs
 
--- src/main.rt:205:13
 one-requires : tie.Need-one-requires Inv-loop μ-loop
 one-requires c κs = search needs
 
--- src/main.rt:206:9
 tell-requires : tie.Need-tell-requires Inv-loop μ-loop
 tell-requires c κs = search needs
 
--- src/main.rt:207:9
 counted-requires : tie.Need-counted-requires Inv-loop μ-loop
 counted-requires c κs = search needs
 
--- src/main.rt:208:9
 add-k : tie.Need-add-k Inv-loop μ-loop
 add-k c = search needs
 
--- src/main.rt:209:9
 after-mark-requires-2 : tie.Need-after-mark-requires-2 Inv-loop μ-loop
 after-mark-requires-2 c κs = search needs
 
--- src/main.rt:201:5
 loop-less : tie.Need-loop-less Inv-loop μ-loop
 loop-less c = let h = past _ _ _ _ (c .before .before .before .before .before .before .before .loop-test .taken) (c .before .before .before .before .before .before .next-mark .ensures .0) (c .before .before .before .before .before .before .next-mark .ensures .1) (c .before .before .before .before .before .after-mark .ensures .1) (c .before .before .before .before .before .after-mark .ensures .2) in omega (arith, c .before .before .before .before .next-mark2 .ensures .0, c .after-mark2 .ensures .1, c .after-mark2 .ensures .0)
 
--- src/main.rt:201:5
 loop-again : tie.Need-loop-again Inv-loop μ-loop
 loop-again c = let h = past _ _ _ _ (c .before .before .before .before .before .before .before .loop-test .taken) (c .before .before .before .before .before .before .next-mark .ensures .0) (c .before .before .before .before .before .before .next-mark .ensures .1) (c .before .before .before .before .before .after-mark .ensures .1) (c .before .before .before .before .before .after-mark .ensures .2) in (omega (arith, c .after-mark2 .ensures .0), omega (arith, c .before .before .before .before .next-mark2 .ensures .0, c .after-mark2 .ensures .1), omega (arith, c .before .before .before .before .next-mark2 .ensures .0, c .after-mark2 .ensures .1, c .before .counted .ensures))
 
--- src/main.rt:211:5
 total-requires : tie.Need-total-requires Inv-loop μ-loop
 total-requires c κs = search needs
 
--- src/main.rt:194:1
 returns : tie.Need-returns Inv-loop μ-loop
 returns c = search needs
 

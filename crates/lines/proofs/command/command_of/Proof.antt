@@ -1,57 +1,41 @@
+-- `command_of` meets its contract: one kind for each arm.
 use Rattle.lines.specs.Command.{commandOf}
 use borrow.Author.Tests.{ne-eqb}
 use borrow.Author.Needs.{needs}
 use Rattle.lines.proofs.command.command_of.Statement.{statement}
 use Rattle.lines.proofs.command.command_of.Tie as tie
-use Rattle.lines.proofs.command.command_of.Reads as reads
-use Rattle.lines.proofs.command.command_of.Lts as lts
-use Rattle.frames.proofs.frame.kind.Reads as kind-reads
-use Rattle.lines.proofs.command.advance_of.Reads as advance-of-reads
-use Rattle.lines.proofs.command.arrival_of.Reads as arrival-of-reads
-use Rattle.lines.proofs.command.run_of.Reads as run-of-reads
-use Rattle.lines.proofs.command.value_of.Reads as value-of-reads
 
--- src/command.rt:119:9
 kind-requires : tie.Need-kind-requires
 kind-requires c κs = search needs
 
--- src/command.rt:121:16
 advance-of-requires : tie.Need-advance-of-requires
 advance-of-requires c κs = search needs
 
--- src/command.rt:122:16
 arrival-of-requires : tie.Need-arrival-of-requires
 arrival-of-requires c κs = search needs
 
--- src/command.rt:123:16
 value-of-requires : tie.Need-value-of-requires
 value-of-requires c κs = search needs
 
--- src/command.rt:124:16
 run-of-requires : tie.Need-run-of-requires
 run-of-requires c κs = search needs
 
--- src/command.rt:115:1
 returns : tie.Need-returns
 unfolding commandOf
 returns c = rw (← c .before .before .kind .ensures .0, c .before .match .keys1) (c .advance-of .ensures)
 
--- src/command.rt:115:1
 returns-2 : tie.Need-returns-2
 unfolding commandOf
 returns-2 c = rw (← c .before .before .kind .ensures .0, c .before .match .keys2) (c .arrival-of .ensures)
 
--- src/command.rt:115:1
 returns-3 : tie.Need-returns-3
 unfolding commandOf
 returns-3 c = rw (← c .before .before .kind .ensures .0, c .before .match .keys3) (c .value-of .ensures)
 
--- src/command.rt:115:1
 returns-4 : tie.Need-returns-4
 unfolding commandOf
 returns-4 c = rw (← c .before .before .kind .ensures .0, c .before .match .keys4) (c .run-of .ensures)
 
--- src/command.rt:115:1
 returns-5 : tie.Need-returns-5
 unfolding commandOf
 returns-5 c = rw (← c .before .kind .ensures .0, ne-eqb _ _ (c .match .rest .0 .0 .0 .1), ne-eqb _ _ (c .match .rest .0 .0 .1), ne-eqb _ _ (c .match .rest .0 .1), ne-eqb _ _ (c .match .rest .1))

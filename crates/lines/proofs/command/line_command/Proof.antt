@@ -1,3 +1,4 @@
+-- `line_command` meets its contract: the frame of a line of the form decides.
 use Rattle.lines.proofs.Reading.{frame-whole}
 use Rattle.lines.specs.Command.{commandOf, lineCommand}
 use borrow.Author.Tests.{not-true, not-false}
@@ -5,38 +6,26 @@ use mathlib.Core.Path.{sym, ap, _∙_}
 use borrow.Author.Needs.{needs}
 use Rattle.lines.proofs.command.line_command.Statement.{statement}
 use Rattle.lines.proofs.command.line_command.Tie as tie
-use Rattle.lines.proofs.command.line_command.Reads as reads
-use Rattle.lines.proofs.command.line_command.Lts as lts
-use Rattle.lines.proofs.command.command_of.Reads as command-of-reads
-use Rattle.lines.proofs.line.line_ok.Reads as line-ok-reads
-use Rattle.lines.proofs.line.put_frame.Reads as put-frame-reads
 
--- src/command.rt:133:9
 line-ok-requires : tie.Need-line-ok-requires
 line-ok-requires c κs = search needs
 
--- src/command.rt:134:9
 returns : tie.Need-returns
 unfolding lineCommand
 returns c = rw (← c .before .line-ok .ensures, not-true (c .before .line-ok .result) (c .if1 .taken))
 
--- src/command.rt:137:21
 slice-aggregate-put-frame : tie.Need-slice-aggregate-put-frame
 slice-aggregate-put-frame c = search needs
 
--- src/command.rt:137:5
 put-frame-requires : tie.Need-put-frame-requires
 put-frame-requires c κs = (sym (c .before .before .line-ok .ensures) ∙ not-false (c .before .before .line-ok .result) (c .before .if1 .left), search needs)
 
--- src/command.rt:138:16
 slice-aggregate-command-of : tie.Need-slice-aggregate-command-of
 slice-aggregate-command-of c = search needs
 
--- src/command.rt:138:5
 command-of-requires : tie.Need-command-of-requires
 command-of-requires c κs = search needs
 
--- src/command.rt:130:1
 returns-2 : tie.Need-returns-2
 unfolding lineCommand
 returns-2 c = rw (← c .before .before .before .before .before .before .line-ok .ensures, not-false (c .before .before .before .before .before .before .line-ok .result) (c .before .before .before .before .before .if1 .left)) (c .command-of .ensures ∙ ap commandOf (c .before .before .before .put-frame .ensures ∙ frame-whole _))

@@ -1,37 +1,27 @@
+-- `plain` meets its contract by what flag and fields are.
 use Rattle.lines.specs.Command.{plain as «plainAt»}
 use borrow.Author.Tests.{eq-eqb, ne-eqb}
 use borrow.Author.Needs.{needs}
 use Rattle.lines.proofs.command.plain.Statement.{statement}
 use Rattle.lines.proofs.command.plain.Tie as tie
-use Rattle.lines.proofs.command.plain.Reads as reads
-use Rattle.lines.proofs.command.plain.Lts as lts
-use Rattle.frames.proofs.frame.field.Reads as field-reads
-use Rattle.frames.proofs.frame.flag.Reads as flag-reads
-use Rattle.lines.proofs.command.last_clear.Reads as last-clear-reads
 
--- src/command.rt:51:8
 flag-requires : tie.Need-flag-requires
 flag-requires c κs = search needs
 
--- src/command.rt:52:9
 returns : tie.Need-returns
 unfolding «plainAt»
 returns c = rw (← c .before .flag .ensures .0, ne-eqb _ _ (c .if1 .taken))
 
--- src/command.rt:54:8
 field-requires : tie.Need-field-requires
 field-requires c κs = search needs
 
--- src/command.rt:55:9
 returns-2 : tie.Need-returns-2
 unfolding «plainAt»
 returns-2 c = rw (← c .before .before .before .flag .ensures .0, eq-eqb _ _ (c .before .before .if1 .left), ← c .before .field .ensures .0, ne-eqb _ _ (c .if2 .taken))
 
--- src/command.rt:57:5
 last-clear-requires : tie.Need-last-clear-requires
 last-clear-requires c κs = search needs
 
--- src/command.rt:47:1
 returns-3 : tie.Need-returns-3
 unfolding «plainAt»
 returns-3 c = rw (← c .before .before .before .before .flag .ensures .0, eq-eqb _ _ (c .before .before .before .if1 .left), ← c .before .before .field .ensures .0, eq-eqb _ _ (c .before .if2 .left), ← c .last-clear .ensures)

@@ -1,3 +1,4 @@
+-- `all_digits` meets its contract. The invariant: the characters passed are digits.
 use Rattle.walk.specs.All.{allTo, all-none, all-more, all-stop}
 use Rattle.lines.specs.Line.{isDigit, allDigits}
 use mathlib.Core.Path.{_≡_, sym, ap, _∙_}
@@ -10,10 +11,6 @@ use denote.Ref.{now}
 use borrow.Author.Needs.{needs}
 use Rattle.lines.proofs.line.all_digits.Statement.{statement}
 use Rattle.lines.proofs.line.all_digits.Tie as tie
-use Rattle.lines.proofs.line.all_digits.Reads as reads
-use Rattle.lines.proofs.line.all_digits.Lts as lts
-use Rattle.lines.proofs.line.character.Reads as character-reads
-use Rattle.lines.proofs.line.is_digit.Reads as is-digit-reads
 
 abbrev Inv-loop : tie.InvT-loop
 Inv-loop line n i₀ i = (i ≤ length line) × (allTo (λ (j : ℕ). isDigit (getD line j 48)) i ≡ true)
@@ -21,36 +18,28 @@ Inv-loop line n i₀ i = (i ≤ length line) × (allTo (λ (j : ℕ). isDigit (g
 abbrev μ-loop : tie.MeasureT-loop
 μ-loop line n i₀ i = length line - i
 
--- src/line.rt:53:5
 loop-holds : tie.Need-loop-holds Inv-loop μ-loop
 loop-holds c = (omega arith, all-none _)
 
--- src/line.rt:54:22
 character-requires : tie.Need-character-requires Inv-loop μ-loop
 character-requires c κs = search needs
 
--- src/line.rt:54:13
 is-digit-requires : tie.Need-is-digit-requires Inv-loop μ-loop
 is-digit-requires c κs = search needs
 
--- src/line.rt:55:13
 returns : tie.Need-returns Inv-loop μ-loop
 unfolding allDigits
 returns c = sym (all-stop _ _ (c .before .before .before .before .loop .i) (c .before .before .before .loop-test .taken) (ap isDigit (sym (c .before .before .character .ensures)) ∙ sym (c .before .is-digit .ensures) ∙ not-true (c .before .is-digit .result) (c .if1 .taken)))
 
--- src/line.rt:57:9
 add-i : tie.Need-add-i Inv-loop μ-loop
 add-i c = search needs
 
--- src/line.rt:53:5
 loop-less : tie.Need-loop-less Inv-loop μ-loop
 loop-less c = search needs
 
--- src/line.rt:53:5
 loop-again : tie.Need-loop-again Inv-loop μ-loop
 loop-again c = (omega arith, all-more _ (c .before .before .before .before .loop .i) (c .before .before .before .before .loop .inv .1) (ap isDigit (sym (c .before .before .character .ensures)) ∙ sym (c .before .is-digit .ensures) ∙ not-false (c .before .is-digit .result) (c .if1 .left)))
 
--- src/line.rt:48:1
 returns-2 : tie.Need-returns-2 Inv-loop μ-loop
 unfolding allDigits
 returns-2 c = let e : c .before .loop .i ≡ length (now (c .before .before .before .args .line)) = omega arith in sym (rw e at (c .before .loop .inv .1))

@@ -1,56 +1,41 @@
+-- `byte_of` meets its contract: each character of a line of the form is a digit, and so is each zero past its end.
 use Rattle.lines.proofs.Reading.{all-digits-at, byte-value}
 use Rattle.lines.specs.Line.{isDigit}
 use mathlib.Core.Path.{ap, _∙_}
-use native.Mathlib.Omega.{arith}
 use borrow.Author.Needs.{needs}
 use Rattle.lines.proofs.line.byte_of.Statement.{statement}
 use Rattle.lines.proofs.line.byte_of.Tie as tie
-use Rattle.lines.proofs.line.byte_of.Reads as reads
-use Rattle.lines.proofs.line.byte_of.Lts as lts
-use Rattle.lines.proofs.line.character.Reads as character-reads
-use Rattle.lines.proofs.line.digit_value.Reads as digit-value-reads
 
--- src/line.rt:84:44
 mul-character : tie.Need-mul-character
 mul-character c = search needs
 
--- src/line.rt:84:28
 character-requires : tie.Need-character-requires
 character-requires c κs = search needs
 
--- src/line.rt:84:9
 digit-value-requires : tie.Need-digit-value-requires
 digit-value-requires c κs = ap isDigit (c .character .ensures) ∙ all-digits-at _ (c .before .before .pre .0) _
 
--- src/line.rt:85:43
 mul-character-2 : tie.Need-mul-character-2
 mul-character-2 c = search needs
 
--- src/line.rt:85:43
 add-character : tie.Need-add-character
 add-character c = search needs
 
--- src/line.rt:85:27
 character-requires-2 : tie.Need-character-requires-2
 character-requires-2 c κs = search needs
 
--- src/line.rt:85:9
 digit-value-requires-2 : tie.Need-digit-value-requires-2
 digit-value-requires-2 c κs = ap isDigit (c .character2 .ensures) ∙ all-digits-at _ (c .before .before .before .before .pre .0) _
 
--- src/line.rt:86:6
 mul-result : tie.Need-mul-result
 mul-result c = search needs
 
--- src/line.rt:86:6
 add-result : tie.Need-add-result
 add-result c = search needs
 
--- src/line.rt:86:5
 cast-result : tie.Need-cast-result
 cast-result c = search needs
 
--- src/line.rt:80:1
 returns : tie.Need-returns
 returns c = byte-value _ _ (c .before .before .before .character .ensures) (c .before .before .digit-value .ensures) (c .before .character2 .ensures) (c .digit-value2 .ensures)
 

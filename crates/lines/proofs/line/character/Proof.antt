@@ -1,3 +1,4 @@
+-- `character` meets its contract: an element that is there does not depend on the default.
 use Rattle.lines.proofs.Reading.{any-default}
 use lib.ListN.{List·getD-eq-default}
 use mathlib.Core.Path.{sym}
@@ -5,18 +6,13 @@ use denote.Ref.{now}
 use borrow.Author.Needs.{needs}
 use Rattle.lines.proofs.line.character.Statement.{statement}
 use Rattle.lines.proofs.line.character.Tie as tie
-use Rattle.lines.proofs.line.character.Reads as reads
-use Rattle.lines.proofs.line.character.Lts as lts
 
--- src/line.rt:45:25
 shared-slice-read-result : tie.Need-shared-slice-read-result
 shared-slice-read-result c = search needs
 
--- src/line.rt:42:1
 returns : tie.Need-returns
 returns c = any-default (now (c .before .before .args .line)) (c .before .before .args .i) 0 48 (c .before .if1 .taken)
 
--- src/line.rt:42:1
 returns-2 : tie.Need-returns-2
 returns-2 c = sym (List·getD-eq-default (now (c .before .args .line)) 48 (c .if1 .left))
 

@@ -1,18 +1,14 @@
+-- `is_digit` meets its contract: each branch decides the tests that the other leaves.
 use Rattle.lines.proofs.Reading.{digit-low, digit-between, digit-high}
 use Rattle.lines.proofs.line.is_digit.Statement.{statement}
 use Rattle.lines.proofs.line.is_digit.Tie as tie
-use Rattle.lines.proofs.line.is_digit.Reads as reads
-use Rattle.lines.proofs.line.is_digit.Lts as lts
 
--- src/line.rt:15:9
 returns : tie.Need-returns
 returns c = digit-low _ (c .if1 .taken)
 
--- src/line.rt:18:9
 returns-2 : tie.Need-returns-2
 returns-2 c = digit-between _ (c .before .if1 .left) (c .if2 .taken)
 
--- src/line.rt:11:1
 returns-3 : tie.Need-returns-3
 returns-3 c = digit-high _ (c .before .if1 .left) (c .if2 .left)
 

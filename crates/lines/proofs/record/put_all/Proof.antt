@@ -1,20 +1,16 @@
+-- `put_all` meets its contract. The invariant (`Printed`): what was printed so far, and what is left.
 use denote.Ref.{now}
 use Rattle.number.specs.Bytes.{halfAt}
 use Prim.Native.Nat.{_≤_, _-_, _+_}
-use Rattle.lines.proofs.Splitting.{size-least, Printed, printed-none, printed-more, printed-all}
+use Rattle.lines.specs.Splits.{least-size}
+use Rattle.lines.proofs.Splitting.{Printed, printed-none, printed-more, printed-all}
 use Rattle.take.specs.Record.{recordSize}
 use lib.ListN.{length, length-take, length-drop}
-use mathlib.Core.Path.{_≡_, refl, sym, ap, _∙_}
+use mathlib.Core.Path.{_≡_, refl, ap, _∙_}
 use native.Mathlib.Omega.{arith}
-use Prim.Native.Nat.{_≤_, _-_}
 use borrow.Author.Needs.{needs}
 use Rattle.lines.proofs.record.put_all.Statement.{statement}
 use Rattle.lines.proofs.record.put_all.Tie as tie
-use Rattle.lines.proofs.record.put_all.Reads as reads
-use Rattle.lines.proofs.record.put_all.Lts as lts
-use Rattle.lines.proofs.text.put_line.Reads as put-line-reads
-use Rattle.number.proofs.bytes.half_at.Reads as half-at-reads
-use Rattle.take.proofs.record.record_size.Reads as record-size-reads
 
 abbrev Inv-loop : tie.InvT-loop
 Inv-loop t s out text₀ at n from₀ p₀ text from p = (from ≤ length out) × Printed (recordSize t s) out text₀ at from p text × (length text ≡ length text₀)
@@ -22,73 +18,56 @@ Inv-loop t s out text₀ at n from₀ p₀ text from p = (from ≤ length out) �
 abbrev μ-loop : tie.MeasureT-loop
 μ-loop t s out text₀ at n from₀ p₀ text from p = length out - from
 
--- src/record.rt:26:5
 loop-holds : tie.Need-loop-holds Inv-loop μ-loop
 loop-holds c = (omega arith, printed-none _ _ _ _, refl)
 
--- src/record.rt:26:17
 sub-loop : tie.Need-sub-loop Inv-loop μ-loop
 sub-loop c = search needs
 
--- src/record.rt:27:51
 add-half-at : tie.Need-add-half-at Inv-loop μ-loop
 add-half-at c = search needs
 
--- src/record.rt:27:38
 half-at-requires : tie.Need-half-at-requires Inv-loop μ-loop
 half-at-requires c κs = search needs
 
--- src/record.rt:27:13
 record-size-requires : tie.Need-record-size-requires Inv-loop μ-loop
 record-size-requires c κs = search needs
 
--- src/record.rt:28:12
 sub-if1 : tie.Need-sub-if1 Inv-loop μ-loop
 sub-if1 c = search needs
 
--- src/record.rt:29:13
 same-length : tie.Need-same-length Inv-loop μ-loop
 same-length c = search needs
 
--- src/record.rt:29:13
 returns : tie.Need-returns Inv-loop μ-loop
 returns c = let w = c .before .before .before .before .loop .inv .1 in let g = printed-all _ _ _ _ _ _ _ w (c .before .record-size .result) (c .before .record-size .ensures .0 ∙ ap (recordSize (now (c .before .before .before .before .before .before .before .before .args .t)) (c .before .before .before .before .before .before .before .before .args .s)) (c .before .before .half-at .ensures .is)) (omega arith) in (g .0, omega (arith, w .within), g .1)
 
--- src/record.rt:31:18
 add-to : tie.Need-add-to Inv-loop μ-loop
 add-to c = search needs
 
--- src/record.rt:32:22
 sub-put-line : tie.Need-sub-put-line Inv-loop μ-loop
 sub-put-line c = search needs
 
--- src/record.rt:32:22
 part-put-line-start : tie.Need-part-put-line-start Inv-loop μ-loop
 part-put-line-start c = search needs
 
--- src/record.rt:32:22
 part-put-line-end : tie.Need-part-put-line-end Inv-loop μ-loop
 part-put-line-end c = search needs
 
--- src/record.rt:32:9
 put-line-requires : tie.Need-put-line-requires Inv-loop μ-loop
-put-line-requires c κs = let w = c .before .before .before .before .before .before .loop .inv .1 in let k = size-least (now (c .before .before .before .before .before .before .before .before .before .before .args .t)) (c .before .before .before .before .before .before .before .before .before .before .args .s) (c .before .before .before .before .half-at .result) in simp (length-take, length-drop) (omega (arith, w .within, c .before .before .before .record-size .ensures .0))
+put-line-requires c κs = let w = c .before .before .before .before .before .before .loop .inv .1 in let k = least-size (now (c .before .before .before .before .before .before .before .before .before .before .args .t)) (c .before .before .before .before .before .before .before .before .before .before .args .s) (c .before .before .before .before .half-at .result) in simp (length-take, length-drop) (omega (arith, w .within, c .before .before .before .record-size .ensures .0))
 
--- src/record.rt:26:5
 loop-less : tie.Need-loop-less Inv-loop μ-loop
-loop-less c = omega (arith, c .before .before .before .before .before .before .record-size .ensures .0, size-least (now (c .before .before .before .before .before .before .before .before .before .before .before .before .before .args .t)) (c .before .before .before .before .before .before .before .before .before .before .before .before .before .args .s) (c .before .before .before .before .before .before .before .half-at .result))
+loop-less c = omega (arith, c .before .before .before .before .before .before .record-size .ensures .0, least-size (now (c .before .before .before .before .before .before .before .before .before .before .before .before .before .args .t)) (c .before .before .before .before .before .before .before .before .before .before .before .before .before .args .s) (c .before .before .before .before .before .before .before .half-at .result))
 
--- src/record.rt:26:5
 loop-again : tie.Need-loop-again Inv-loop μ-loop
-loop-again c = let w = c .before .before .before .before .before .before .before .before .before .loop .inv .1 in let k = size-least (now (c .before .before .before .before .before .before .before .before .before .before .before .before .before .args .t)) (c .before .before .before .before .before .before .before .before .before .before .before .before .before .args .s) (c .before .before .before .before .before .before .before .half-at .result) in (omega arith, printed-more _ _ _ _ _ _ _ w (c .before .before .before .before .before .before .record-size .result) (c .before .before .before .before .before .before .record-size .ensures .0 ∙ ap (recordSize (now (c .before .before .before .before .before .before .before .before .before .before .before .before .before .args .t)) (c .before .before .before .before .before .before .before .before .before .before .before .before .before .args .s)) (c .before .before .before .before .before .before .before .half-at .ensures .is)) _ _ (omega (arith, c .before .before .before .before .before .before .record-size .ensures .0)) (omega arith) (c .before .before .put-line .ensures .0) (c .before .before .put-line .ensures .1), omega arith)
+loop-again c = let w = c .before .before .before .before .before .before .before .before .before .loop .inv .1 in let k = least-size (now (c .before .before .before .before .before .before .before .before .before .before .before .before .before .args .t)) (c .before .before .before .before .before .before .before .before .before .before .before .before .before .args .s) (c .before .before .before .before .before .before .before .half-at .result) in (omega arith, printed-more _ _ _ _ _ _ _ w (c .before .before .before .before .before .before .record-size .result) (c .before .before .before .before .before .before .record-size .ensures .0 ∙ ap (recordSize (now (c .before .before .before .before .before .before .before .before .before .before .before .before .before .args .t)) (c .before .before .before .before .before .before .before .before .before .before .before .before .before .args .s)) (c .before .before .before .before .before .before .before .half-at .ensures .is)) _ _ (omega (arith, c .before .before .before .before .before .before .record-size .ensures .0)) (omega arith) (c .before .before .put-line .ensures .0) (c .before .before .put-line .ensures .1), omega arith)
 
--- src/record.rt:19:1
 same-length-2 : tie.Need-same-length-2 Inv-loop μ-loop
 same-length-2 c = search needs
 
--- src/record.rt:19:1
 returns-2 : tie.Need-returns-2 Inv-loop μ-loop
-returns-2 c = let w = c .before .loop .inv .1 in let k = size-least (now (c .before .before .before .before .before .args .t)) (c .before .before .before .before .before .args .s) (halfAt (now (c .before .before .before .before .before .args .out)) (c .before .loop .from + 2)) in let g = printed-all _ _ _ _ _ _ _ w (recordSize (now (c .before .before .before .before .before .args .t)) (c .before .before .before .before .before .args .s) (halfAt (now (c .before .before .before .before .before .args .out)) (c .before .loop .from + 2))) refl (omega arith) in (g .0, omega (arith, w .within), g .1)
+returns-2 c = let w = c .before .loop .inv .1 in let k = least-size (now (c .before .before .before .before .before .args .t)) (c .before .before .before .before .before .args .s) (halfAt (now (c .before .before .before .before .before .args .out)) (c .before .loop .from + 2)) in let g = printed-all _ _ _ _ _ _ _ w (recordSize (now (c .before .before .before .before .before .args .t)) (c .before .before .before .before .before .args .s) (halfAt (now (c .before .before .before .before .before .args .out)) (c .before .loop .from + 2))) refl (omega arith) in (g .0, omega (arith, w .within), g .1)
 
 pub put-all-spec : {M : Type 1} → statement M
 put-all-spec =

@@ -1,25 +1,20 @@
+-- `glyph` meets its contract by its test.
 use Rattle.lines.specs.Text.{glyph as «glyphOf»}
 use borrow.Author.Tests.{lt-ltb, le-ltb}
 use borrow.Author.Needs.{needs}
 use Rattle.lines.proofs.text.glyph.Statement.{statement}
 use Rattle.lines.proofs.text.glyph.Tie as tie
-use Rattle.lines.proofs.text.glyph.Reads as reads
-use Rattle.lines.proofs.text.glyph.Lts as lts
 
--- src/text.rt:13:17
 add-result : tie.Need-add-result
 add-result c = search needs
 
--- src/text.rt:13:33
 add-result-2 : tie.Need-add-result-2
 add-result-2 c = search needs
 
--- src/text.rt:9:1
 returns : tie.Need-returns
 unfolding «glyphOf»
 returns c = rw (lt-ltb _ _ (c .if1 .taken))
 
--- src/text.rt:9:1
 returns-2 : tie.Need-returns-2
 unfolding «glyphOf»
 returns-2 c = rw (le-ltb _ _ (c .if1 .left))

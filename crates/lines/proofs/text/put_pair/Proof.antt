@@ -1,3 +1,4 @@
+-- `put_pair` meets its contract: two stores.
 use native.Mathlib.Numerals.{add-one}
 use Rattle.lines.specs.Text.{pair}
 use lib.ListN.{length-set}
@@ -5,35 +6,25 @@ use native.Mathlib.Omega.{arith}
 use borrow.Author.Needs.{needs}
 use Rattle.lines.proofs.text.put_pair.Statement.{statement}
 use Rattle.lines.proofs.text.put_pair.Tie as tie
-use Rattle.lines.proofs.text.put_pair.Reads as reads
-use Rattle.lines.proofs.text.put_pair.Lts as lts
-use Rattle.lines.proofs.text.glyph.Reads as glyph-reads
 
--- src/text.rt:21:16
 glyph-requires : tie.Need-glyph-requires
 glyph-requires c κs = search needs
 
--- src/text.rt:21:5
 slice-write-text : tie.Need-slice-write-text
 slice-write-text c = search needs
 
--- src/text.rt:22:20
 glyph-requires-2 : tie.Need-glyph-requires-2
 glyph-requires-2 c κs = search needs
 
--- src/text.rt:22:10
 add-text : tie.Need-add-text
 add-text c = search needs
 
--- src/text.rt:22:5
 slice-write-text-2 : tie.Need-slice-write-text-2
 slice-write-text-2 c = simp length-set (omega arith)
 
--- src/text.rt:17:1
 same-length : tie.Need-same-length
 same-length c = search needs
 
--- src/text.rt:17:1
 returns : tie.Need-returns
 unfolding pair
 returns c = rw (add-one (c .before .before .before .args .at), ← c .before .glyph .ensures, ← c .glyph2 .ensures)
