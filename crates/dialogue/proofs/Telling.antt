@@ -4,11 +4,10 @@ use mathlib.Core.List.{List, [], _++_}
 use mathlib.Core.Bool.{Bool, true, false}
 use Prim.Native.Nat.{ℕ, _+_, _*_, _≤_, _<_}
 use native.Mathlib.Omega.{arith}
-use lib.Dec.{eqb, ltb, leb}
-use lib.ListN.{length, take, set, replicate, length-append, length-take}
+use lib.ListN.{length, take, set, length-append, length-take}
 use lib.Seq.{sets}
 use borrow.Author.Tests.{eq-eqb, ne-eqb, lt-ltb, le-ltb, le-leb, lt-leb}
-use Rattle.walk.specs.Choose.{choose, choose-true, choose-false}
+use Rattle.walk.specs.Choose.{choose-true, choose-false}
 use Rattle.number.specs.Sets.{and-then}
 use Rattle.number.specs.Bytes.{halfBytes, wordBytes}
 use Rattle.table.specs.Judge.{judged}
@@ -18,13 +17,13 @@ use Rattle.dialogue.specs.declared.Phase.{Phase}
 use Rattle.dialogue.specs.declared.Phase.the-variants.{Table, Calls, Values, Stopped}
 use Rattle.dialogue.specs.declared.Session.{Session}
 use Rattle.lines.specs.Line.{lineOk, lineFrame, opens}
-use Rattle.lines.specs.Text.{lineOf, line-length}
+use Rattle.lines.specs.Text.{line-length}
 use Rattle.lines.specs.Answer.{answerFrame, answerLine, malformedLine}
 use Rattle.lines.specs.Record.{recordsBy}
 use Rattle.lines.specs.declared.command.Command.{Command}
-use Rattle.lines.specs.declared.command.Command.the-variants.{Wrong, Advance, Arrival, Value, Run}
+use Rattle.lines.specs.declared.command.Command.the-variants.{Arrival}
 use Rattle.lines.specs.Command.{lineCommand}
-use Rattle.dialogue.specs.Program.{Deed, only, malformedDeed, afterLoad, loadAnswer, loadStore, loadDeed, advanceDeed, arrivalDeed, runStore, runText, runDeed, callBy, callDeed, following, valued, valueBy, valueDeed, hasRoom, endAfter, kept, tableDeed, afterDeed, judgedBy, openingDeed, lineDeed, endDeed, endAfterDeed, lastDeed, byteDeed, lengthAfter, lineAfter, Took, Calm, Printed}
+use Rattle.dialogue.specs.Program.{Deed, only, malformedDeed, afterLoad, loadAnswer, loadStore, loadDeed, advanceDeed, arrivalDeed, runStore, runText, callBy, callDeed, following, valued, valueBy, valueDeed, hasRoom, endAfter, kept, tableDeed, afterDeed, judgedBy, openingDeed, lineDeed, endDeed, endAfterDeed, lastDeed, byteDeed, lengthAfter, lineAfter, Took, Calm, Printed}
 
 -- an answer's line has 24 digits and its end
 pub answer-line : (a : Answer) → length (answerLine a) ≡ 25

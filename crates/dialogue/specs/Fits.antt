@@ -1,20 +1,20 @@
 -- What the definitions of printed lines take for granted: the numbers of an answer fit their places in its line, so no remainder takes anything away; and what a
 -- run prints is one line for each move that writes a record, then its answer.
-use mathlib.Core.Path.{_≡_, refl, sym, ap, _∙_}
+use mathlib.Core.Path.{_≡_, refl, ap, _∙_}
 use mathlib.Core.List.{List, _++_}
-use mathlib.Core.Bool.{Bool, true, false}
+use mathlib.Core.Bool.{true}
 use Prim.Native.Nat.{ℕ, zero, suc, _+_, _≤_, _<_}
 use native.Mathlib.Omega.{arith}
 use lib.Dec.{eqb, ltb, leb}
 use lib.ListN.{length, take, length-append}
 use lib.Seq.{sets}
 use borrow.Author.Tests.{leb-true}
-use Rattle.walk.specs.Pick.{pick, both, by-test, both-right}
+use Rattle.walk.specs.Pick.{pick, by-test, both-right}
 use Rattle.walk.specs.Choose.{choose}
 use Rattle.walk.specs.Held.{heldTo, held}
 use Rattle.number.specs.Sets.{part-sets}
 use Rattle.table.specs.declared.Shape.{Shape}
-use Rattle.table.specs.declared.Judged.the-variants.{Sound, Refused as «Faulty»}
+use Rattle.table.specs.declared.Judged.the-variants.{Refused as «Faulty»}
 use Rattle.table.specs.Judge.{Verdict, accepted, refused, judge, judged, answer, shapeOf}
 use Rattle.store.specs.Layout.{need}
 use Rattle.store.specs.Word.{nowOf}
@@ -24,7 +24,7 @@ use Rattle.moves.specs.Sizes.{written-length}
 use Rattle.run.specs.Run.{after, bytes, another, roomFor, goesOn, made, stopAfter}
 use Rattle.run.specs.Calls.{wrongTime, beyondDue, ofSource, associated}
 use Rattle.xaluudhiga.specs.declared.calls.Answer.{Answer}
-use Rattle.xaluudhiga.specs.declared.calls.Answer.the-variants.{Refused, Done, Ran}
+use Rattle.xaluudhiga.specs.declared.calls.Answer.the-variants.{Refused, Done}
 use Rattle.xaluudhiga.specs.Calls.{numberOf, frameOf, stopOf, bytesOf, answerBy, keptBy, loadRefusal, storeRefusal, timeRefusal, advanceRefusal, eventRefusal, arrivalRefusal, runMoves, runAnswer}
 use Rattle.xaluudhiga.specs.Bounds.{number-few, frame-few}
 use Rattle.take.specs.Record.{recordSize}

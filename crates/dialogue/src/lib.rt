@@ -1,4 +1,8 @@
 // The step program without its reading and writing: what each byte of the input changes and prints.
+//
+// Room in the text: an answer's line has 25 bytes. The lines of a run's records have at most three bytes for each of the 4,096 of its output, two digits and a
+// share of the line end: with the answer 12,313. The line that ends the table prints the load's answer before its own: 12,338. So does the end of the input
+// after a last line: 12,363.
 ghost use mathlib.Core.Path.{_≡_};
 ghost use mathlib.Core.Bool.{true};
 ghost use Prim.Native.Nat.{ℕ, _+_, _*_, _<_, _≤_};

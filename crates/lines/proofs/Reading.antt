@@ -1,8 +1,8 @@
 -- What a line says, over plain variables.
 use mathlib.Core.Path.{_≡_, refl, sym, ap, _∙_}
 use mathlib.Core.List.{List, [], _∷_, _++_}
-use mathlib.Core.Bool.{Bool, true, false}
-use mathlib.Core.Logic.{_⊎_, inl, inr, ⊎-elim}
+use mathlib.Core.Bool.{true, false}
+use mathlib.Core.Logic.{_⊎_, ⊎-elim}
 use Prim.Native.Nat.{ℕ, zero, suc, _+_, _*_, _-_, _%_, _≤_, _<_}
 use native.Mathlib.Nat.{le-of-suc-le-suc, not-suc-le-zero}
 use native.Mathlib.Numerals.{add-one}
@@ -11,8 +11,8 @@ use lib.Dec.{eqb, leb}
 use lib.ListN.{length, getD, set, replicate, length-append, List·getD-eq-default}
 use lib.Seq.{sets}
 use borrow.Author.Tests.{le-leb, lt-leb, leb-true}
-use Rattle.walk.specs.Pick.{pick, both, either, both-true, both-false, both-right, either-false, clash, tri}
-use Rattle.walk.specs.All.{allTo, all-at}
+use Rattle.walk.specs.Pick.{both-true, both-false, both-right, either-false, clash, tri}
+use Rattle.walk.specs.All.{all-at}
 use Rattle.number.specs.Bounded.{Bounded}
 use Rattle.number.specs.Sets.{and-then}
 use Rattle.lines.specs.Line.{isDigit, digitValue, allDigits, lineOk, byteOf, bytesTo}

@@ -1,14 +1,12 @@
 -- A run's bytes taken apart into records, one line each: what a loop over them has printed so far.
 use mathlib.Core.Path.{_≡_, refl, sym, ap, _∙_}
-use mathlib.Core.List.{List, [], _∷_, _++_, append-assoc, append-nil}
-use mathlib.Core.Bool.{Bool, true, false}
+use mathlib.Core.List.{List, [], _++_, append-assoc, append-nil}
 use Prim.Native.Nat.{ℕ, zero, suc, _+_, _*_, _-_, _≤_, _<_}
 use native.Mathlib.Omega.{arith}
-use lib.Dec.{leb}
 use lib.ListN.{length, take, drop, length-append, length-drop}
 use lib.Seq.{sets, length-take-le}
 use borrow.Author.Tests.{le-leb, lt-leb}
-use Rattle.walk.specs.Choose.{choose, choose-true, choose-false}
+use Rattle.walk.specs.Choose.{choose-true, choose-false}
 use Rattle.number.specs.Bytes.{halfAt}
 use Rattle.number.specs.Sets.{and-then}
 use Rattle.table.specs.declared.Shape.{Shape}

@@ -1,12 +1,12 @@
 -- "Each load and call prints C0, flag refusal, a frame, b, c moves, d stop number, e bytes"
 use Prim.Native.Nat.{ℕ, _%_}
-use mathlib.Core.List.{List, [], _∷_, _++_}
+use mathlib.Core.List.{List, _∷_, _++_}
 use Rattle.number.specs.Bytes.{halfBytes, wordBytes}
 use Rattle.xaluudhiga.specs.declared.calls.Answer.{Answer}
 use Rattle.xaluudhiga.specs.Calls.{numberOf, frameOf, movesOf, stopOf, bytesOf}
 use Rattle.lines.specs.Text.{lineOf}
 
--- the frame of an answer's five numbers; each fits its place, so no remainder takes anything away
+-- the frame of an answer's five numbers; what a call answers fits, so no remainder takes anything away (laws in the crate `dialogue`, specs/Fits)
 unfoldable pub answerFrame : ℕ → ℕ → ℕ → ℕ → ℕ → List ℕ
 answerFrame number frame moves stop bytes =
     192 ∷ number % 256 ∷ (halfBytes (frame % 65536) ++ wordBytes moves ++ halfBytes (stop % 65536) ++ halfBytes (bytes % 65536))

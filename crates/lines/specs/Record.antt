@@ -1,15 +1,11 @@
 -- "records come before it, a line each": a run's bytes hold its records one after another. Bytes 2 and 3 of a record name its event input, which says how long
 -- the record is.
-use mathlib.Core.Path.{_≡_, refl, sym, ap, _∙_}
-use mathlib.Core.List.{List, [], _∷_, _++_, append-assoc}
-use mathlib.Core.Bool.{Bool, true, false}
-use Prim.Native.Nat.{ℕ, zero, suc, _+_, _*_, _-_, _≤_, _<_}
-use native.Mathlib.Omega.{arith}
+use mathlib.Core.List.{List, [], _++_}
+use Prim.Native.Nat.{ℕ, zero, suc, _+_}
 use lib.Dec.{leb}
 use lib.ListN.{length, take, drop}
-use Rattle.walk.specs.Choose.{choose, choose-true, choose-false}
+use Rattle.walk.specs.Choose.{choose}
 use Rattle.number.specs.Bytes.{halfAt}
-use Rattle.table.specs.declared.Shape.{Shape}
 use Rattle.table.specs.declared.Judged.{Judged}
 use Rattle.table.specs.declared.Judged.the-variants.{Sound, Refused}
 use Rattle.take.specs.Record.{recordSize}

@@ -1,11 +1,11 @@
 -- A run's bytes taken apart are its records: each move that writes one prints one line, in the order of the moves.
 use mathlib.Core.Path.{_≡_, refl, sym, ap, _∙_, subst}
-use mathlib.Core.List.{List, [], _∷_, _++_, append-assoc, append-nil}
+use mathlib.Core.List.{List, [], _++_, append-assoc, append-nil}
 use mathlib.Core.Bool.{Bool, true, false}
-use Prim.Native.Nat.{ℕ, zero, suc, _+_, _*_, _/_, _%_, _≤_, _<_}
+use Prim.Native.Nat.{ℕ, zero, suc, _+_, _*_, _≤_}
 use native.Mathlib.Nat.{add-assoc}
 use native.Mathlib.Omega.{arith}
-use lib.Dec.{eqb, leb}
+use lib.Dec.{eqb}
 use lib.ListN.{length, getD, take, drop, length-append, List·getD-append}
 use lib.Seq.{getD-append-add, drop-append-seam, take-append-seam}
 use borrow.Author.Tests.{le-leb, lt-leb}
@@ -13,10 +13,8 @@ use Rattle.walk.specs.Choose.{choose, choose-true, choose-false}
 use Rattle.number.specs.Bytes.{halfAt, halfBytes, wordBytes}
 use Rattle.frames.specs.Frame.{flagAt}
 use Rattle.table.specs.declared.Shape.{Shape}
-use Rattle.store.specs.Word.{birthOf, lastUpdate}
 use Rattle.fire.specs.Partner.{inputOwner}
-use Rattle.take.specs.Take.{sampled}
-use Rattle.take.specs.Record.{head, values, recordOf, recordSize}
+use Rattle.take.specs.Record.{head, recordOf, recordSize}
 use Rattle.take.specs.Sizes.{record-length}
 use Rattle.moves.specs.declared.Next.{Next}
 use Rattle.moves.specs.declared.Next.the-variants.{Still, Take, Block}
