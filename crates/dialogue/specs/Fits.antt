@@ -5,65 +5,35 @@ use mathlib.Core.List.{List, _++_}
 use mathlib.Core.Bool.{true}
 use Prim.Native.Nat.{ℕ, zero, suc, _+_, _≤_, _<_}
 use native.Mathlib.Omega.{arith}
-use lib.Dec.{eqb, ltb, leb}
+use lib.Dec.{eqb, leb}
 use lib.ListN.{length, take, length-append}
 use lib.Seq.{sets}
 use borrow.Author.Tests.{leb-true}
-use Rattle.walk.specs.Pick.{pick, by-test, both-right}
+use Rattle.walk.specs.Pick.{by-test, both-right}
 use Rattle.walk.specs.Choose.{choose}
 use Rattle.walk.specs.Held.{heldTo, held}
 use Rattle.number.specs.Sets.{part-sets}
 use Rattle.table.specs.declared.Shape.{Shape}
-use Rattle.table.specs.declared.Judged.the-variants.{Refused as «Faulty»}
-use Rattle.table.specs.Judge.{Verdict, accepted, refused, judge, judged, answer, shapeOf}
-use Rattle.store.specs.Layout.{need}
+use Rattle.table.specs.Judge.{Verdict, accepted, refused, judge, answer, shapeOf}
 use Rattle.store.specs.Word.{nowOf}
-use Rattle.load.specs.WellFormed.{wellFormed}
 use Rattle.moves.specs.Next.{nextOf, written, sizeBy}
 use Rattle.moves.specs.Sizes.{written-length}
 use Rattle.run.specs.Run.{after, bytes, another, roomFor, goesOn, made, stopAfter}
-use Rattle.run.specs.Calls.{wrongTime, beyondDue, ofSource, associated}
 use Rattle.xaluudhiga.specs.declared.calls.Answer.{Answer}
 use Rattle.xaluudhiga.specs.declared.calls.Answer.the-variants.{Refused, Done}
-use Rattle.xaluudhiga.specs.Calls.{numberOf, frameOf, stopOf, bytesOf, answerBy, keptBy, loadRefusal, storeRefusal, timeRefusal, advanceRefusal, eventRefusal, arrivalRefusal, runMoves, runAnswer}
-use Rattle.xaluudhiga.specs.Bounds.{number-few, frame-few}
+use Rattle.xaluudhiga.specs.Calls.{numberOf, frameOf, stopOf, bytesOf, answerBy, keptBy, loadRefusal, storeRefusal, advanceRefusal, arrivalRefusal, runMoves, runAnswer}
+use Rattle.xaluudhiga.specs.Bounds.{Compact, load-compact, advance-compact, arrival-compact, run-compact}
 use Rattle.take.specs.Record.{recordSize}
 use Rattle.lines.specs.Answer.{answerLine}
 use Rattle.lines.specs.Record.{recordsBy, recordLines}
 use Rattle.lines.specs.Splits.{runLines, split-run}
-use Rattle.dialogue.specs.Program.{loadAnswer, advanceAnswer, arrivalAnswer, runAnswered, runText}
+use Rattle.dialogue.specs.Program.{loadAnswer, loadStore, advanceAnswer, advanceStore, arrivalAnswer, arrivalStore, runAnswered, runStore, runOutput, runText}
 
 pub record Fits (a : Answer) : Type 0 where
   pub number : numberOf a < 256
   pub frame : frameOf a < 65536
   pub stop : stopOf a < 65536
   pub bytes-few : bytesOf a < 65536
-
--- ---- the refusals of a call
-load-few : (S : Shape) (s : List ℕ) → loadRefusal S s ≤ 11
-unfolding loadRefusal
-load-few S s = by-test (λ (n : ℕ). n ≤ 11) (ltb (length s) (need S)) 5 0 (λ _. omega arith) (λ _. omega arith)
-
-store-few : (T : List ℕ) (S : Shape) (s : List ℕ) → storeRefusal T S s ≤ 11
-unfolding storeRefusal
-store-few T S s =
-    by-test (λ (n : ℕ). n ≤ 11) (ltb (length s) (need S)) 5 _ (λ _. omega arith)
-    (λ _. by-test (λ (n : ℕ). n ≤ 11) (wellFormed T S s) 0 6 (λ _. omega arith) (λ _. omega arith))
-
-or-few : (q p : ℕ) → q ≤ 11 → p ≤ 11 → pick (eqb q 0) p q ≤ 11
-or-few q p a b = by-test (λ (n : ℕ). n ≤ 11) (eqb q 0) p q (λ _. b) (λ _. a)
-
-time-few : (S : Shape) (s : List ℕ) (t : ℕ) → timeRefusal S s t ≤ 11
-unfolding timeRefusal
-time-few S s t =
-    by-test (λ (n : ℕ). n ≤ 11) (wrongTime s t) 7 _ (λ _. omega arith) (λ _. by-test (λ (n : ℕ). n ≤ 11) (beyondDue S s t) 8 0 (λ _. omega arith) (λ _. omega arith))
-
-event-few : (T : List ℕ) (S : Shape) (s : List ℕ) (o birth : ℕ) (vs : List ℕ) → eventRefusal T S s o birth vs ≤ 11
-unfolding eventRefusal
-event-few T S s o birth vs =
-    by-test (λ (n : ℕ). n ≤ 11) (ofSource T S o) _ 9
-    (λ _. by-test (λ (n : ℕ). n ≤ 11) (ltb (nowOf s) birth) 10 _ (λ _. omega arith) (λ _. by-test (λ (n : ℕ). n ≤ 11) (eqb (length vs) (associated T S o)) 0 11 (λ _. omega arith) (λ _. omega arith)))
-    (λ _. omega arith)
 
 -- ---- the bytes of a run fit its output
 module _ (T : List ℕ) (S : Shape) (time room : ℕ) (s : List ℕ) where
@@ -96,36 +66,39 @@ module _ (T : List ℕ) (S : Shape) (time room : ℕ) (s : List ℕ) where
   stop-few n =
       by-test (λ (k : ℕ). k ≤ 3) (another T S time s n) _ 1 (λ _. by-test (λ (k : ℕ). k ≤ 3) (roomFor T S time room s n) 2 3 (λ _. omega arith) (λ _. omega arith)) (λ _. omega arith)
 
--- ---- what a call answers
-answer-fits : (T : List ℕ) (v : Verdict) (q : ℕ) (done : Answer) → judge T ≡ v → q ≤ 11 → Fits done → Fits (answerBy v q done)
-answer-fits T accepted q done e l w =
-    by-test Fits (eqb q 0) done (Refused q 0) (λ _. w) (λ _. record { number = omega arith; frame = omega arith; stop = omega arith; bytes-few = omega arith })
-answer-fits T (refused p f) q done e l w =
-    let g : judged T ≡ «Faulty» p f = ap (λ (x : Verdict). answer x (shapeOf T)) e in
-    let a = number-few T p f g in
-    let b = frame-few T p f g in
-    record { number = omega arith; frame = omega arith; stop = omega arith; bytes-few = omega arith }
+-- ---- what a call answers: number and frame are small (`Compact`), and the counts are those of a call that is done, or none
+counts-fit : (v : Verdict) (q : ℕ) (done : Answer) → stopOf done < 65536 → bytesOf done < 65536 → (stopOf (answerBy v q done) < 65536) × (bytesOf (answerBy v q done) < 65536)
+counts-fit accepted q done a b =
+    by-test (λ (r : Answer). (stopOf r < 65536) × (bytesOf r < 65536)) (eqb q 0) done (Refused q 0) (λ _. (a, b)) (λ _. (omega arith, omega arith))
+counts-fit (refused p f) q done a b = (omega arith, omega arith)
 
-done-fits : Fits Done
-done-fits = record { number = omega arith; frame = omega arith; stop = omega arith; bytes-few = omega arith }
+compact-fits : (a : Answer) → Compact a → (stopOf a < 65536) × (bytesOf a < 65536) → Fits a
+compact-fits a c w = record { number = omega (arith, c .low); frame = omega (arith, c .inside); stop = w .0; bytes-few = w .1 }
 
 module _ (T s : List ℕ) where
   pub load-fits : Fits (loadAnswer T s)
-  load-fits = answer-fits T (judge T) _ Done refl (load-few (shapeOf T) s) done-fits
+  load-fits =
+      compact-fits (loadAnswer T s) (load-compact T s {a = loadAnswer T s} {s′ = loadStore T s} (record { answer = refl; store = refl }))
+      (counts-fit (judge T) (loadRefusal (shapeOf T) s) Done (omega arith) (omega arith))
 
   pub advance-fits : (t : ℕ) → Fits (advanceAnswer T s t)
-  unfolding advanceRefusal
-  advance-fits t = answer-fits T (judge T) _ Done refl (or-few _ _ (store-few T (shapeOf T) s) (time-few (shapeOf T) s t)) done-fits
+  advance-fits t =
+      compact-fits (advanceAnswer T s t) (advance-compact T s {a = advanceAnswer T s t} {s′ = advanceStore T s t} t (record { answer = refl; store = refl }))
+      (counts-fit (judge T) (advanceRefusal T (shapeOf T) s t) Done (omega arith) (omega arith))
 
   pub arrival-fits : (o birth : ℕ) (vs : List ℕ) → Fits (arrivalAnswer T s o birth vs)
-  unfolding arrivalRefusal
-  arrival-fits o birth vs = answer-fits T (judge T) _ Done refl (or-few _ _ (store-few T (shapeOf T) s) (event-few T (shapeOf T) s o birth vs)) done-fits
+  arrival-fits o birth vs =
+      compact-fits (arrivalAnswer T s o birth vs)
+      (arrival-compact T s {a = arrivalAnswer T s o birth vs} {s′ = arrivalStore T s o birth vs} o birth vs (record { answer = refl; store = refl }))
+      (counts-fit (judge T) (arrivalRefusal T (shapeOf T) s o birth vs) Done (omega arith) (omega arith))
 
   pub run-fits : (b : ℕ) (out : List ℕ) → length out < 65536 → Fits (runAnswered T s b out)
   run-fits b out l =
       let g = bytes-fit T (shapeOf T) (nowOf s) (length out) s b in
       let h = stop-few T (shapeOf T) (nowOf s) (length out) s (runMoves T s b (length out)) in
-      answer-fits T (judge T) _ _ refl (store-few T (shapeOf T) s) (record { number = omega arith; frame = omega arith; stop = omega arith; bytes-few = omega arith })
+      compact-fits (runAnswered T s b out)
+      (run-compact T s {a = runAnswered T s b out} {s′ = runStore T s b out} b out (runOutput T s b out) (record { answer = refl; store = refl; output = refl }))
+      (counts-fit (judge T) (storeRefusal T (shapeOf T) s) (runAnswer T s b (length out) (runMoves T s b (length out))) (omega arith) (omega arith))
 
 -- ---- what a run prints that nothing refuses
 module _ (T s : List ℕ) (b : ℕ) (out : List ℕ) (sound : judge T ≡ accepted) (ready : storeRefusal T (shapeOf T) s ≡ 0) where
