@@ -160,17 +160,6 @@ fn after_load(a: Answer) -> Phase
     }
 }
 
-// The bytes that a run wrote.
-fn bytes_of(a: Answer) -> usize
-    ensures { λ r. ⌜ r ≡ bytesOf a ⌝ }
-{
-    match a {
-        Answer::Refused(_, _) => 0,
-        Answer::Done => 0,
-        Answer::Ran(_, bytes, _) => bytes,
-    }
-}
-
 // The table is loaded.
 fn tell_load(t: &[u8], store: &mut [u32], text: &mut [u8], s: Session) -> Session
     requires { ⌜ s .at + 25 ≤ length (now text) ⌝ }
@@ -215,7 +204,7 @@ fn put_run(t: &[u8], out: &[u8], a: Answer, text: &mut [u8], at: usize) -> usize
     requires { ⌜ at + 3 * length (now out) + 25 ≤ length (now text) ⌝ }
     ensures { λ r. ⌜ Printed (recordsBy (judged (now (t .entry))) (now (t .entry)) (take (bytesOf a) (now (out .entry))) ++ answerLine a) at (at + 3 * length (now (out .entry)) + 25) r (now (text .entry)) (now (text .exit)) ⌝ }
 {
-    let from = put_records(t, stretch(out, bytes_of(a)), text, at);
+    let from = put_records(t, stretch(out, a.bytes()), text, at);
     put_answer(text, from, a)
 }
 
