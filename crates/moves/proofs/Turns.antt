@@ -1,18 +1,17 @@
 -- What each way through a move leaves, over plain variables.
 use mathlib.Core.Path.{_≡_, refl, sym, ap, _∙_}
-use mathlib.Core.List.{List, []}
+use mathlib.Core.List.{List}
 use mathlib.Core.Bool.{Bool, true, false}
 use Prim.Native.Nat.{ℕ, _+_, _-_, _<_, _≤_}
 use native.Mathlib.Omega.{arith}
-use lib.Dec.{eqb, ltb}
+use lib.Dec.{eqb}
 use lib.IntN.{pos}
 use lib.Seq.{sets}
-use mathlib.Core.List.{_++_}
 use borrow.Author.Tests.{eq-eqb, ne-eqb, lt-ltb, le-ltb, eqb-true, ltb-true}
-use Rattle.walk.specs.Pick.{pick, both-right, both-left}
-use Rattle.walk.specs.Choose.{choose, choose-true, choose-false}
-use Rattle.walk.specs.Count.{countIf, count-le}
-use Rattle.walk.specs.First.{Sought, one, missing, first-in, first-true}
+use Rattle.walk.specs.Pick.{pick, both-right}
+use Rattle.walk.specs.Choose.{choose-true, choose-false}
+use Rattle.walk.specs.Count.{count-le}
+use Rattle.walk.specs.First.{one, missing, first-in, first-true}
 use Rattle.number.specs.Word.{signed, word}
 use Rattle.number.specs.Operation.{operation}
 use Rattle.frames.specs.Frame.{flagAt, fieldAt}
@@ -31,13 +30,12 @@ use Rattle.least.specs.declared.Best.the-variants.{At, Nothing}
 use Rattle.least.specs.Least.{least}
 use Rattle.least.specs.Within.{least-in}
 use Rattle.chart.specs.Chart.{actionOf, stateOf, chartMove}
-use Rattle.take.specs.Take.{samples, sampled, receive, taken}
-use Rattle.take.specs.Record.{head, values, recordOf, recordSize}
+use Rattle.take.specs.Take.{sampled, taken}
+use Rattle.take.specs.Record.{recordOf, Received}
 use Rattle.moves.specs.declared.Next.{Next}
 use Rattle.moves.specs.declared.Next.the-variants.{Take, Block, Still}
 use Rattle.moves.specs.Act.{oneStep, stepMove, endMove, act, actMove}
 use Rattle.moves.specs.Next.{fromBest, nextBy, nextOf, inTable, Ready, blockMove, moveBy, writtenBy, takenSize, sizeBy}
-use lib.ListN.{length}
 
 -- ---- steps and actions
 
@@ -118,21 +116,12 @@ ready-in S n i w e = ltb-true i (inputs S) (sym (ap (inTable S) e) ∙ w .known)
 -- ---- taking an event
 module _ (T : List ℕ) (S : Shape) (time i : ℕ) (s s₁ s′ o o′ : List ℕ) (at : ℕ) {el sort birth last r : ℕ} (owner : el ≡ inputOwner T S i) (kind : sort ≡ flagAt T el)
     (born : birth ≡ birthOf S s i) (late : last ≡ lastUpdate S s i) (stopped : s₁ ≡ putInput S i 0 0 0 s) where
-  -- a sink only writes its record
-  pub took-sink : sort ≡ 4 → (s′ ≡ samples T S i s₁) × (o′ ≡ sets o at (head el i birth last time ++ values T S (samples T S i s₁) i)) × (r ≡ at + recordSize T S i)
+  pub took : Received T S sort el i birth last time s₁ s′ o o′ at r
       → (s′ ≡ taken T S i time s) × (o′ ≡ sets o at (writtenBy T S time (Take i) s)) × (r ≡ at + sizeBy T S (Take i))
-  unfolding taken sampled receive choose writtenBy recordOf sizeBy takenSize
-  took-sink e u =
-      let k : flagAt T (inputOwner T S i) ≡ 4 = rw (← owner) (sym kind ∙ e) in
-      (rw (k, ← stopped) (u .0), rw (k, ← stopped, ← born, ← late, ← owner) (u .1), rw k (u .2))
-
-  -- another element receives it, and nothing is written
-  pub took-other : (sort ≡ 4 → ⊥) → s′ ≡ receive sort T S el i birth time (samples T S i s₁) → o′ ≡ o → r ≡ at
-      → (s′ ≡ taken T S i time s) × (o′ ≡ sets o at (writtenBy T S time (Take i) s)) × (r ≡ at + sizeBy T S (Take i))
-  unfolding taken sampled writtenBy sizeBy takenSize
-  took-other e u v w =
+  unfolding taken sampled writtenBy recordOf sizeBy takenSize
+  took u =
       let k : flagAt T (inputOwner T S i) ≡ sort = rw (← owner) (sym kind) in
-      (rw (k, ← owner, ← stopped, ← born) u, rw (k, choose-false _ _ _ (ne-eqb sort 4 e)) v, rw (k, ne-eqb sort 4 e) (omega arith))
+      (rw (k, ← owner, ← stopped, ← born) (u .store-is), rw (k, ← stopped, ← born, ← late, ← owner) (u .output-is), rw k (u .place-is))
 
 -- ---- the running block goes on
 module _ (T : List ℕ) (S : Shape) (time : ℕ) (r : Running) (s s′ : List ℕ) where

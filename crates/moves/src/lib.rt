@@ -26,7 +26,6 @@ use store::word::running;
 use table::Shape;
 use take::receive;
 use take::record::record_size;
-use take::record::write_record;
 
 // What comes next: a waiting event is taken, or the running block goes on.
 pub enum Next {
@@ -105,11 +104,7 @@ fn take_event(
     let el = field(t, s.elements + i, 0);
     let sort = flag(t, el);
     put_input(store, s, i, 0, 0, 0);
-    if sort == 4 {
-        return write_record(t, store, s, el, i, born, last, time, out, at);
-    }
-    receive(t, store, s, sort, el, i, born, time);
-    at
+    receive(t, store, s, sort, el, i, born, last, time, out, at)
 }
 
 // The running block goes on: its chart, or its actions.

@@ -1,9 +1,10 @@
 -- What each way through a take leaves, over plain variables.
 use mathlib.Core.Path.{_≡_, refl, sym, _∙_}
-use mathlib.Core.List.{List}
+use mathlib.Core.List.{List, _++_}
 use mathlib.Core.Bool.{Bool, true, false}
 use Prim.Native.Nat.{ℕ, _+_, _<_}
 use native.Mathlib.Omega.{arith}
+use lib.Seq.{sets}
 use borrow.Author.Tests.{eq-eqb, ne-eqb}
 use Rattle.walk.specs.Choose.{choose, choose-true, choose-false}
 use Rattle.walk.specs.Walk.{upTo, upTo-end}
@@ -25,7 +26,8 @@ use Rattle.fire.specs.Carry.{voice, speaks, orNone, carriedBy, voiceOf, Carried
 use Rattle.fire.specs.Carrying.{carried-none, carried-partner}
 use Rattle.fire.specs.Fire.{fire}
 use Rattle.take.specs.Together.{passed-together}
-use Rattle.take.specs.Take.{sample, samples, passTo, pass, passes, fireFound, relay, ticksIn, dtOf, isStart, delay}
+use Rattle.take.specs.Take.{sample, samples, passTo, pass, passes, fireFound, relay, ticksIn, dtOf, isStart, delay, wake, receive}
+use Rattle.take.specs.Record.{head, values, recordSize, Received}
 
 -- what a search among n frames found is one of them
 pub nth-in : (T : List ℕ) (first n g x k j : ℕ) {r : Found} → r ≡ foundOf (nth T first n g x k) → r ≡ One j → j < n
@@ -105,3 +107,33 @@ module _ (T : List ℕ) (S : Shape) (el i time : ℕ) (s s′ : List ℕ) where
   pub delay-stop : {k : ℕ} → k ≡ rank T (S .elements) any el i → (k ≡ 0 → ⊥) → s′ ≡ putDue el 0 0 s → s′ ≡ delay T S el i time s
   unfolding delay isStart
   delay-stop p q u = rw (choose-false _ _ _ (ne-eqb _ _ (λ h. q (p ∙ h)))) u
+
+-- ---- an event received, by the element's sort
+module _ (T : List ℕ) (S : Shape) (el i birth last time : ℕ) (s o : List ℕ) (at : ℕ) {sort : ℕ} {s′ : List ℕ} where
+  pub received-basic : {s₁ : List ℕ} → sort ≡ 0 → s₁ ≡ samples T S i s → s′ ≡ wake el i birth s₁ → Received T S sort el i birth last time s s′ o o at at
+  unfolding receive choose
+  received-basic e u w = rw e (record { store-is = rw (← u) w; output-is = refl; place-is = omega arith })
+
+  pub received-interface : sort ≡ 1 → s′ ≡ relay T S i birth time (samples T S i s) → Received T S sort el i birth last time s s′ o o at at
+  unfolding receive choose
+  received-interface e w = rw e (record { store-is = w; output-is = refl; place-is = omega arith })
+
+  pub received-delay : {s₁ : List ℕ} → sort ≡ 2 → s₁ ≡ samples T S i s → s′ ≡ delay T S el i time s₁ → Received T S sort el i birth last time s s′ o o at at
+  unfolding receive choose
+  received-delay e u w = rw e (record { store-is = rw (← u) w; output-is = refl; place-is = omega arith })
+
+  pub received-sink : {o′ : List ℕ} {r : ℕ} → sort ≡ 4
+      → (s′ ≡ samples T S i s) × (o′ ≡ sets o at (head el i birth last time ++ values T S (samples T S i s) i)) × (r ≡ at + recordSize T S i)
+      → Received T S sort el i birth last time s s′ o o′ at r
+  unfolding receive choose
+  received-sink e w = rw e (record { store-is = w .0; output-is = w .1; place-is = w .2 })
+
+  -- a source has no event input, and nothing else is left
+  pub received-no-more : (sort ≡ 0 → ⊥) → (sort ≡ 1 → ⊥) → (sort ≡ 2 → ⊥) → (sort ≡ 4 → ⊥) → s′ ≡ samples T S i s → Received T S sort el i birth last time s s′ o o at at
+  unfolding receive choose
+  received-no-more a b c d w =
+      record {
+        store-is = rw (ne-eqb sort 0 a, ne-eqb sort 1 b, ne-eqb sort 2 c) w;
+        output-is = rw (ne-eqb sort 4 d) refl;
+        place-is = rw (ne-eqb sort 4 d) (omega arith);
+      }

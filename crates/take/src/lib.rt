@@ -1,7 +1,10 @@
 // Taking an event.
 ghost use mathlib.Core.Path.{_≡_};
 ghost use mathlib.Core.Bool.{Bool};
-ghost use Prim.Native.Nat.{_<_, _≤_};
+ghost use Prim.Native.Nat.{_+_, _<_, _≤_};
+ghost use lib.Dec.{eqb};
+ghost use lib.ListN.{length};
+ghost use Rattle.walk.specs.Pick.{pick};
 ghost use Rattle.number.specs.Bounded.{Bounded};
 ghost use Rattle.frames.specs.Frame.{flagAt};
 ghost use Rattle.store.specs.Good.{Good};
@@ -9,10 +12,12 @@ ghost use Rattle.store.specs.Layout.{inputs, variables, associations as «assoc
 ghost use Rattle.store.specs.Word.{value, putValue, buffer};
 ghost use Rattle.fire.specs.Partner.{inputOwner, partnerVariable};
 ghost use Rattle.fire.specs.Carry.{voice, orNone, carriedBy, Carried};
-ghost use Rattle.take.specs.Take.{sample as «sampleAt», samples, passTo, pass as «passAt», passes, relay as «relayOf», dtOf, isStart, delay as «delayOf», wake as «wakeOf», receive as «receiveOf»};
+ghost use Rattle.take.specs.Take.{sample as «sampleAt», samples, passTo, pass as «passAt», passes, relay as «relayOf», dtOf, isStart, delay as «delayOf», wake as «wakeOf»};
+ghost use Rattle.take.specs.Record.{recordSize, Received};
 
 pub mod record;
 
+use crate::record::write_record;
 use bits::mark;
 use fire::carry::Voice;
 use fire::carry::speaks;
@@ -154,7 +159,8 @@ fn wake(store: &mut [u32], el: usize, i: usize, birth: u32)
     put_running(store, Running::awake(birth));
 }
 
-// Associated inputs get value from buffer, and the event does its work at element el, by its sort: 0 basic, 1 interface, 2 delay.
+// Associated inputs get value from buffer, and the event does its work at element el, by its sort: 0 basic, 1 interface, 2 delay, 3 source, 4 sink.
+// What an event does is decided here alone. A sink's record goes to the output at `at`; the answer is the place after what is written.
 pub fn receive(
     t: &[u8],
     store: &mut [u32],
@@ -163,19 +169,33 @@ pub fn receive(
     el: usize,
     i: usize,
     birth: u32,
+    last: u32,
     time: u32,
-)
-    requires { ⌜ Good (now t) s × (i < inputs s) × (sort ≡ flagAt (now t) (inputOwner (now t) s i)) × (el < 65536) × (time < 2147483648) ⌝ }
-    ensures { λ _. ⌜ now (store .exit) ≡ receiveOf sort (now (t .entry)) s el i birth time (samples (now (t .entry)) s i (now (store .entry))) ⌝ }
+    out: &mut [u8],
+    at: usize,
+) -> usize
+    requires { ⌜ Good (now t) s × (i < inputs s) × (sort ≡ flagAt (now t) (inputOwner (now t) s i)) × (el < 65536) × (time < 2147483648) × (at + pick (eqb sort 4) (recordSize (now t) s i) 0 ≤ length (now out)) ⌝ }
+    ensures { λ r. ⌜ Received (now (t .entry)) s sort el i birth last time (now (store .entry)) (now (store .exit)) (now (out .entry)) (now (out .exit)) at r ⌝ }
 {
-    if sort == 1 {
-        relay(t, store, s, i, birth, time);
-        return;
-    }
-    sample_all(t, store, s, i);
     match sort {
-        0 => wake(store, el, i, birth),
-        2 => delay(t, store, s, el, i, time),
-        _ => {}
+        0 => {
+            sample_all(t, store, s, i);
+            wake(store, el, i, birth);
+            at
+        }
+        1 => {
+            relay(t, store, s, i, birth, time);
+            at
+        }
+        2 => {
+            sample_all(t, store, s, i);
+            delay(t, store, s, el, i, time);
+            at
+        }
+        4 => write_record(t, store, s, el, i, birth, last, time, out, at),
+        _ => {
+            sample_all(t, store, s, i);
+            at
+        }
     }
 }

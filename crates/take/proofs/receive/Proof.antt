@@ -1,20 +1,9 @@
--- `receive` meets its contract: an interface for itself, every other sort samples first and then does its own.
+-- `receive` meets its contract: by the sort, each its own; all but an interface and a sink sample first and then do it.
 use borrow.Author.Needs.{needs}
+use native.Mathlib.Omega.{arith}
+use Rattle.take.proofs.Turns.{received-basic, received-interface, received-delay, received-sink, received-no-more}
 use Rattle.take.proofs.receive.Statement.{statement}
-use Rattle.walk.specs.Choose.{choose}
-use Rattle.take.specs.Take.{receive}
-use borrow.Author.Tests.{ne-eqb}
 use Rattle.take.proofs.receive.Tie as tie
-
-relay-requires : tie.Need-relay-requires
-relay-requires c κs = search needs
-
-same-length : tie.Need-same-length
-same-length c = search needs
-
-returns : tie.Need-returns
-unfolding receive choose
-returns c = rw (c .before .before .before .before .if1 .taken) (c .before .before .relay .ensures)
 
 sample-all-requires : tie.Need-sample-all-requires
 sample-all-requires c κs = search needs
@@ -22,43 +11,73 @@ sample-all-requires c κs = search needs
 wake-requires : tie.Need-wake-requires
 wake-requires c κs = search needs
 
+relay-requires : tie.Need-relay-requires
+relay-requires c κs = search needs
+
+sample-all-requires-2 : tie.Need-sample-all-requires-2
+sample-all-requires-2 c κs = search needs
+
 delay-requires : tie.Need-delay-requires
 delay-requires c κs = search needs
+
+write-record-requires : tie.Need-write-record-requires
+write-record-requires c κs = (c .before .before .before .before .before .before .pre .0, c .before .before .before .before .before .before .pre .3, c .before .before .before .before .before .before .pre .1, rw (c .before .before .match .keys4) at (c .before .before .before .before .before .before .pre .5))
+
+sample-all-requires-3 : tie.Need-sample-all-requires-3
+sample-all-requires-3 c κs = search needs
+
+same-length : tie.Need-same-length
+same-length c = search needs
+
+returns : tie.Need-returns
+returns c = received-basic _ _ _ _ _ _ _ _ _ _ (c .before .before .before .before .before .before .before .before .match .keys1) (c .before .before .before .before .before .before .sample-all .ensures) (c .before .before .wake .ensures)
 
 same-length-2 : tie.Need-same-length-2
 same-length-2 c = search needs
 
 returns-2 : tie.Need-returns-2
-unfolding receive choose
-returns-2 c = rw (c .before .before .before .before .match .keys1, ← c .before .before .before .before .before .before .before .sample-all .ensures) (c .before .before .wake .ensures)
+returns-2 c = received-interface _ _ _ _ _ _ _ _ _ _ (c .before .before .before .before .match .keys2) (c .before .before .relay .ensures)
 
 same-length-3 : tie.Need-same-length-3
 same-length-3 c = search needs
 
 returns-3 : tie.Need-returns-3
-unfolding receive choose
-returns-3 c = rw (c .before .before .before .before .match .keys2, ← c .before .before .before .before .before .before .before .sample-all .ensures) (c .before .before .delay .ensures)
+returns-3 c = received-delay _ _ _ _ _ _ _ _ _ _ (c .before .before .before .before .before .before .before .before .match .keys3) (c .before .before .before .before .before .before .sample-all2 .ensures) (c .before .before .delay .ensures)
 
 same-length-4 : tie.Need-same-length-4
 same-length-4 c = search needs
 
+same-length-5 : tie.Need-same-length-5
+same-length-5 c = search needs
+
 returns-4 : tie.Need-returns-4
-unfolding receive choose
-returns-4 c = rw (ne-eqb _ _ (c .match .rest .0 .1), ne-eqb _ _ (c .before .before .before .before .before .if1 .left), ne-eqb _ _ (c .match .rest .1)) (c .before .before .before .sample-all .ensures)
+returns-4 c = received-sink _ _ _ _ _ _ _ _ _ _ (c .before .before .before .before .before .before .before .match .keys4) (c .before .before .before .before .write-record .ensures)
+
+same-length-6 : tie.Need-same-length-6
+same-length-6 c = search needs
+
+returns-5 : tie.Need-returns-5
+returns-5 c = received-no-more _ _ _ _ _ _ _ _ _ _ (c .before .before .before .before .match .rest .0 .0 .0 .1) (c .before .before .before .before .match .rest .0 .0 .1) (c .before .before .before .before .match .rest .0 .1) (c .before .before .before .before .match .rest .1) (c .before .before .sample-all3 .ensures)
 
 pub receive-spec : {M : Type 1} → statement M
 receive-spec =
     tie.close
     (tie.spec
-    relay-requires
-    same-length
-    returns
     sample-all-requires
     wake-requires
+    relay-requires
+    sample-all-requires-2
     delay-requires
+    write-record-requires
+    sample-all-requires-3
+    same-length
+    returns
     same-length-2
     returns-2
     same-length-3
     returns-3
     same-length-4
-    returns-4)
+    same-length-5
+    returns-4
+    same-length-6
+    returns-5)
