@@ -19,59 +19,64 @@
 enum { PUSH = 0 }; /* the event output by which a push arrives */
 
 static const uint8_t table[] = {
-    FRAME(XAL_KIND_ELEMENT, 3, 0, 0, 0, 0, 0),          /* element 0: the button, a source */
-    FRAME(XAL_KIND_ELEMENT, 0, 1, 0, 0, 0, 0),          /* element 1: the light's control, a basic block, at first in state 0 */
-    FRAME(XAL_KIND_ELEMENT, 2, 2, 0, 0, 0, 0),          /* element 2: the timer, a delay */
-    FRAME(XAL_KIND_ELEMENT, 4, 3, 0, 0, 0, 0),          /* elements 3, 4 and 5: the lamps, sinks */
-    FRAME(XAL_KIND_ELEMENT, 4, 4, 0, 0, 0, 0),
-    FRAME(XAL_KIND_ELEMENT, 4, 5, 0, 0, 0, 0),
-    FRAME(XAL_KIND_EVENT_INPUT, 0, 1, 0, 0, 0, 0),      /* event input 0: PUSHED of the control */
-    FRAME(XAL_KIND_EVENT_INPUT, 1, 1, 0, 0, 0, 0),      /* event input 1: ELAPSED of the control */
-    FRAME(XAL_KIND_EVENT_INPUT, 0, 2, 0, 0, 0, 0),      /* event input 2: START of the timer */
-    FRAME(XAL_KIND_EVENT_INPUT, 1, 2, 0, 0, 0, 0),      /* event input 3: STOP of the timer */
-    FRAME(XAL_KIND_EVENT_INPUT, 0, 3, 0, 0, 0, 0),      /* event inputs 4, 5 and 6: SET of the lamps */
+    FRAME(XAL_KIND_ELEMENT, XAL_SORT_SOURCE, 0, 0, 0, 0, 0),          /* element 0: the button */
+    FRAME(XAL_KIND_ELEMENT, XAL_SORT_BASIC, 1, 0, 0, 0, 0),           /* element 1: the light's control, at first in state 0 */
+    FRAME(XAL_KIND_ELEMENT, XAL_SORT_DELAY, 2, 0, 0, 0, 0),           /* element 2: the timer */
+    FRAME(XAL_KIND_ELEMENT, XAL_SORT_SINK, 3, 0, 0, 0, 0),            /* elements 3, 4 and 5: the lamps */
+    FRAME(XAL_KIND_ELEMENT, XAL_SORT_SINK, 4, 0, 0, 0, 0),
+    FRAME(XAL_KIND_ELEMENT, XAL_SORT_SINK, 5, 0, 0, 0, 0),
+    FRAME(XAL_KIND_EVENT_INPUT, 0, 1, 0, 0, 0, 0),                    /* event input 0: PUSHED of the control; the flag is the local priority */
+    FRAME(XAL_KIND_EVENT_INPUT, 1, 1, 0, 0, 0, 0),                    /* event input 1: ELAPSED of the control */
+    FRAME(XAL_KIND_EVENT_INPUT, 0, 2, 0, 0, 0, 0),                    /* event input 2: START of the timer */
+    FRAME(XAL_KIND_EVENT_INPUT, 1, 2, 0, 0, 0, 0),                    /* event input 3: STOP of the timer */
+    FRAME(XAL_KIND_EVENT_INPUT, 0, 3, 0, 0, 0, 0),                    /* event inputs 4, 5 and 6: SET of the lamps */
     FRAME(XAL_KIND_EVENT_INPUT, 0, 4, 0, 0, 0, 0),
     FRAME(XAL_KIND_EVENT_INPUT, 0, 5, 0, 0, 0, 0),
-    FRAME(XAL_KIND_EVENT_OUTPUT, 0, 0, 0, 0, 0, 0),     /* event output 0: PUSH of the button */
-    FRAME(XAL_KIND_EVENT_OUTPUT, 0, 1, 0, 0, 0, 0),     /* event output 1: SWITCHED of the control */
-    FRAME(XAL_KIND_EVENT_OUTPUT, 0, 2, 0, 0, 0, 0),     /* event output 2: ELAPSED of the timer */
-    FRAME(XAL_KIND_VARIABLE, 1, 0, 0, 0, 0, 0),         /* variable 0: TIME of the button, an output */
-    FRAME(XAL_KIND_VARIABLE, 1, 1, 0, 0, 0, 0),         /* variable 1: LIT of the control, an output */
-    FRAME(XAL_KIND_VARIABLE, 2, 1, 0, 0, 0, 0),         /* variable 2: OFF, 0 */
-    FRAME(XAL_KIND_VARIABLE, 2, 1, 0, 1, 0, 0),         /* variable 3: ON, 1 */
-    FRAME(XAL_KIND_VARIABLE, 0, 2, 0, 0, 0, 0),         /* variable 4: DT of the timer, an input */
-    FRAME(XAL_KIND_VARIABLE, 0, 3, 0, 0, 0, 0),         /* variables 5, 6 and 7: LIT of the lamps, inputs */
-    FRAME(XAL_KIND_VARIABLE, 0, 4, 0, 0, 0, 0),
-    FRAME(XAL_KIND_VARIABLE, 0, 5, 0, 0, 0, 0),
-    FRAME(XAL_KIND_ASSOCIATION, 0, 2, 4, 0, 0, 0),      /* START samples DT */
-    FRAME(XAL_KIND_ASSOCIATION, 0, 4, 5, 0, 0, 0),      /* each SET samples its LIT */
-    FRAME(XAL_KIND_ASSOCIATION, 0, 5, 6, 0, 0, 0),
-    FRAME(XAL_KIND_ASSOCIATION, 0, 6, 7, 0, 0, 0),
-    FRAME(XAL_KIND_ASSOCIATION, 1, 0, 0, 0, 0, 0),      /* PUSH carries TIME */
-    FRAME(XAL_KIND_ASSOCIATION, 1, 1, 1, 0, 0, 0),      /* SWITCHED carries LIT */
-    FRAME(XAL_KIND_STATE, 0, 1, 0, 0, 0, 0),            /* state 0: dark */
-    FRAME(XAL_KIND_STATE, 0, 1, 0, 0, 0, 0),            /* state 1: lit */
-    FRAME(XAL_KIND_TRANSITION, 0, 0, 1, 0, 0, 0),       /* dark to lit on PUSHED */
-    FRAME(XAL_KIND_TRANSITION, 0, 1, 0, 1, 0, 0),       /* lit to dark on ELAPSED */
-    FRAME(XAL_KIND_ACTION, 0, 0, 0, 1, 1, 0),           /* dark: step 0, then SWITCHED */
-    FRAME(XAL_KIND_ACTION, 0, 1, 1, 1, 1, 0),           /* lit: step 1, then SWITCHED */
-    FRAME(XAL_KIND_STEP, 0, 1, 2, 0, 0, 0),             /* step 0: LIT = OFF */
-    FRAME(XAL_KIND_STEP, 0, 1, 3, 0, 0, 0),             /* step 1: LIT = ON */
-    FRAME(XAL_KIND_EVENT_CONNECTION, 0, 0, 0, 0, 0, 0), /* PUSH to PUSHED */
-    FRAME(XAL_KIND_EVENT_CONNECTION, 0, 0, 2, 0, 0, 0), /* PUSH to START: each push starts the timer anew */
-    FRAME(XAL_KIND_EVENT_CONNECTION, 0, 1, 4, 0, 0, 0), /* SWITCHED to each SET */
+    FRAME(XAL_KIND_EVENT_OUTPUT, 0, 0, 0, 0, 0, 0),                   /* event output 0: PUSH of the button */
+    FRAME(XAL_KIND_EVENT_OUTPUT, 0, 1, 0, 0, 0, 0),                   /* event output 1: SWITCHED of the control */
+    FRAME(XAL_KIND_EVENT_OUTPUT, 0, 2, 0, 0, 0, 0),                   /* event output 2: ELAPSED of the timer */
+    FRAME(XAL_KIND_VARIABLE, XAL_ROLE_OUTPUT, 0, 0, 0, 0, 0),         /* variable 0: TIME of the button */
+    FRAME(XAL_KIND_VARIABLE, XAL_ROLE_OUTPUT, 1, 0, 0, 0, 0),         /* variable 1: LIT of the control */
+    FRAME(XAL_KIND_VARIABLE, XAL_ROLE_INTERNAL, 1, 0, 0, 0, 0),       /* variable 2: OFF, starts as 0 */
+    FRAME(XAL_KIND_VARIABLE, XAL_ROLE_INTERNAL, 1, 0, 1, 0, 0),       /* variable 3: ON, starts as 1 */
+    FRAME(XAL_KIND_VARIABLE, XAL_ROLE_INPUT, 2, 0, 0, 0, 0),          /* variable 4: DT of the timer */
+    FRAME(XAL_KIND_VARIABLE, XAL_ROLE_INPUT, 3, 0, 0, 0, 0),          /* variables 5, 6 and 7: LIT of the lamps */
+    FRAME(XAL_KIND_VARIABLE, XAL_ROLE_INPUT, 4, 0, 0, 0, 0),
+    FRAME(XAL_KIND_VARIABLE, XAL_ROLE_INPUT, 5, 0, 0, 0, 0),
+    FRAME(XAL_KIND_ASSOCIATION, XAL_WITH_INPUT, 2, 4, 0, 0, 0),       /* START samples DT */
+    FRAME(XAL_KIND_ASSOCIATION, XAL_WITH_INPUT, 4, 5, 0, 0, 0),       /* each SET samples its LIT */
+    FRAME(XAL_KIND_ASSOCIATION, XAL_WITH_INPUT, 5, 6, 0, 0, 0),
+    FRAME(XAL_KIND_ASSOCIATION, XAL_WITH_INPUT, 6, 7, 0, 0, 0),
+    FRAME(XAL_KIND_ASSOCIATION, XAL_WITH_OUTPUT, 0, 0, 0, 0, 0),      /* PUSH carries TIME */
+    FRAME(XAL_KIND_ASSOCIATION, XAL_WITH_OUTPUT, 1, 1, 0, 0, 0),      /* SWITCHED carries LIT */
+    FRAME(XAL_KIND_STATE, 0, 1, 0, 0, 0, 0),                          /* state 0: dark */
+    FRAME(XAL_KIND_STATE, 0, 1, 0, 0, 0, 0),                          /* state 1: lit */
+    FRAME(XAL_KIND_TRANSITION, XAL_GUARD_ALWAYS, 0, 1, 0, 0, 0),      /* dark to lit on PUSHED */
+    FRAME(XAL_KIND_TRANSITION, XAL_GUARD_ALWAYS, 1, 0, 1, 0, 0),      /* lit to dark on ELAPSED */
+    FRAME(XAL_KIND_ACTION, 0, 0, 0, 1, 1, 0),                         /* dark: step 0, then SWITCHED */
+    FRAME(XAL_KIND_ACTION, 0, 1, 1, 1, 1, 0),                         /* lit: step 1, then SWITCHED */
+    FRAME(XAL_KIND_STEP, XAL_OP_COPY, 1, 2, 0, 0, 0),                 /* step 0: LIT = OFF */
+    FRAME(XAL_KIND_STEP, XAL_OP_COPY, 1, 3, 0, 0, 0),                 /* step 1: LIT = ON */
+    FRAME(XAL_KIND_EVENT_CONNECTION, 0, 0, 0, 0, 0, 0),               /* PUSH to PUSHED */
+    FRAME(XAL_KIND_EVENT_CONNECTION, 0, 0, 2, 0, 0, 0),               /* PUSH to START: each push starts the timer anew */
+    FRAME(XAL_KIND_EVENT_CONNECTION, 0, 1, 4, 0, 0, 0),               /* SWITCHED to each SET */
     FRAME(XAL_KIND_EVENT_CONNECTION, 0, 1, 5, 0, 0, 0),
     FRAME(XAL_KIND_EVENT_CONNECTION, 0, 1, 6, 0, 0, 0),
-    FRAME(XAL_KIND_EVENT_CONNECTION, 0, 2, 1, 0, 0, 0), /* the timer's ELAPSED to the control's */
-    FRAME(XAL_KIND_DATA_CONNECTION, 0, 0, 4, 0, 0, 0),  /* TIME to DT */
-    FRAME(XAL_KIND_DATA_CONNECTION, 0, 1, 5, 0, 0, 0),  /* the control's LIT to each lamp's */
+    FRAME(XAL_KIND_EVENT_CONNECTION, 0, 2, 1, 0, 0, 0),               /* the timer's ELAPSED to the control's */
+    FRAME(XAL_KIND_DATA_CONNECTION, 0, 0, 4, 0, 0, 0),                /* TIME to DT */
+    FRAME(XAL_KIND_DATA_CONNECTION, 0, 1, 5, 0, 0, 0),                /* the control's LIT to each lamp's */
     FRAME(XAL_KIND_DATA_CONNECTION, 0, 1, 6, 0, 0, 0),
     FRAME(XAL_KIND_DATA_CONNECTION, 0, 1, 7, 0, 0, 0),
 };
 
 /* A host that knows its table lends exactly its need; one that takes any table lends XAL_MAX_NEED words. */
-enum { ELEMENTS = 6, STORE_WORDS = XAL_NEED(ELEMENTS, 7, 8) };
+enum { ELEMENTS = 6, EVENT_INPUTS = 7, VARIABLES = 8, STORE_WORDS = XAL_NEED(ELEMENTS, EVENT_INPUTS, VARIABLES) };
 static uint32_t store[STORE_WORDS];
+
+/* This host reads words of the store (next_due, settle), so it says for which layout it was written. */
+#if XAL_STORE_LAYOUT != 1
+#error "this host reads the store by layout 1"
+#endif
 
 /* What a table and a store are in each call. */
 #define NETWORK table, sizeof table, store, STORE_WORDS
@@ -96,12 +101,20 @@ static unsigned number_at(const uint8_t *p, int bytes) {
     return n;
 }
 
-/* How many values the records of an event input have: its associations, read from the stretch of the table that holds them. */
-static unsigned values_of(unsigned event) {
+/* The stretch of the table that holds the associations. It is asked for once: each call checks the whole table first. */
+static const uint8_t *associations, *associations_end;
+
+static void find_associations(void) {
     size_t start, bytes = xal_frames_of(table, sizeof table, XAL_KIND_ASSOCIATION, &start);
+    associations = table + start;
+    associations_end = associations + bytes;
+}
+
+/* How many values the records of an event input have: its associations. */
+static unsigned values_of(unsigned event) {
     unsigned count = 0;
-    for (const uint8_t *frame = table + start; frame != table + start + bytes; frame += XAL_FRAME_BYTES)
-        if (frame[1] == 0 && number_at(frame + 2, 2) == event)
+    for (const uint8_t *frame = associations; frame != associations_end; frame += XAL_FRAME_BYTES)
+        if (frame[1] == XAL_WITH_INPUT && number_at(frame + 2, 2) == event)
             count++;
     return count;
 }
@@ -142,7 +155,7 @@ static void settle(void) {
 static int next_due(uint32_t *time) {
     int found = 0;
     for (int e = 0; e < ELEMENTS; e++) {
-        const uint32_t *element = store + XAL_STORE_HEAD + e * XAL_ELEMENT_WORDS;
+        const uint32_t *element = store + XAL_ELEMENT_AT(e);
         if (element[XAL_ELEMENT_DUE_FLAG] && (!found || element[XAL_ELEMENT_DUE_TIME] < *time)) {
             *time = element[XAL_ELEMENT_DUE_TIME];
             found = 1;
@@ -160,8 +173,13 @@ enum { PUSHES = sizeof pushes / sizeof pushes[0] };
 
 int main(void) {
     uint64_t verdict = xal_check(table, sizeof table);
-    printf("table of %u frames: number %u, need %u words\n", (unsigned)(sizeof table / XAL_FRAME_BYTES), xal_number(verdict),
-           (unsigned)xal_need(table, sizeof table));
+    size_t need = xal_need(table, sizeof table);
+    printf("table of %u frames: number %u, need %u words\n", (unsigned)(sizeof table / XAL_FRAME_BYTES), xal_number(verdict), (unsigned)need);
+    if (need != STORE_WORDS) {
+        printf("the header counts %u words: it is of another version than the library\n", (unsigned)STORE_WORDS);
+        return 1;
+    }
+    find_associations();
     judge("load", xal_load(NETWORK));
 
     int next = 0;

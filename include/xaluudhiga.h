@@ -6,8 +6,8 @@
  * own, takes none from a heap and makes no system call: all that it knows is in the table and the store that the host lends. So a host may
  * keep any number of stores, copy them, and go on from a copy. Of the C library it needs memset alone.
  *
- * Every call is proved to do what the build definition (document 01) says, for every table, store, time and value list, and to read and
- * write nothing but what it is lent. None can be called at a wrong moment: what a call cannot do it refuses, by a number, and a refused
+ * Every call is proved to do what the rules (docs/RULES.md) say, for every table, store, time and value list, and to read and write
+ * nothing but what it is lent. None can be called at a wrong moment: what a call cannot do it refuses, by a number, and a refused
  * call leaves the store and the output buffer exactly as they came.
  *
  * What the caller must keep to, since C cannot check it:
@@ -59,6 +59,50 @@ enum {
     XAL_KIND_DATA_CONNECTION = 0x0B
 };
 
+/* The flag of an element: its sort. */
+enum {
+    XAL_SORT_BASIC = 0,     /* has a state chart */
+    XAL_SORT_INTERFACE = 1, /* passes events and values on */
+    XAL_SORT_DELAY = 2,     /* event inputs START and STOP, one event output, one input variable DT */
+    XAL_SORT_SOURCE = 3,    /* its events arrive from outside */
+    XAL_SORT_SINK = 4       /* its events leave as records */
+};
+
+/* The flag of a variable: its role. */
+enum {
+    XAL_ROLE_INPUT = 0,
+    XAL_ROLE_OUTPUT = 1,
+    XAL_ROLE_INTERNAL = 2
+};
+
+/* The flag of an association (WITH): which of its element's sides it joins. */
+enum {
+    XAL_WITH_INPUT = 0, /* an event input and an input variable */
+    XAL_WITH_OUTPUT = 1 /* an event output and an output variable */
+};
+
+/* The flag of a transition: its guard, over the values of the variables d and e. */
+enum {
+    XAL_GUARD_ALWAYS = 0, /* d and e are zero and not read */
+    XAL_GUARD_EQUALS = 1,
+    XAL_GUARD_DIFFERS = 2,
+    XAL_GUARD_BELOW = 3,  /* d is below e */
+    XAL_GUARD_AT_MOST = 4 /* d is at most e */
+};
+
+/* The flag of a step: its operation, from the values of the variables b and c to the variable a. */
+enum {
+    XAL_OP_COPY = 0,     /* b; c is zero */
+    XAL_OP_ADD = 1,
+    XAL_OP_SUBTRACT = 2, /* c from b */
+    XAL_OP_NEGATE = 3,   /* b; c is zero */
+    XAL_OP_MULTIPLY = 4,
+    XAL_OP_DIVIDE = 5,   /* b by c, toward zero; 0 where c is 0 */
+    XAL_OP_MINIMUM = 6,
+    XAL_OP_MAXIMUM = 7,
+    XAL_OP_AGE = 8       /* now less the birth of the current event; b and c are zero */
+};
+
 /* ---- Answers
  *
  * A call answers 0 when it is done, and else number * 65536 + frame: the refusal number, and for XAL_REFUSED_FRAME to XAL_REFUSED_NETWORK
@@ -91,38 +135,59 @@ static inline unsigned xal_frame(uint64_t answer) {
 
 /* ---- The store
  *
- * 32-bit words; signed values in two's complement. A store is made by xal_load and kept by the host, who may read any word of it:
- *
- *   XAL_WORD_..                                          of the whole network
- *   XAL_STORE_HEAD + 3 * element                         XAL_ELEMENT_..: chart state, due flag, due time
- *   XAL_STORE_HEAD + 3 * elements + 3 * event_input      waiting flag, birth, last update
- *   XAL_STORE_HEAD + 3 * elements + 3 * event_inputs + 2 * variable      value, buffer
- *
+ * 32-bit words; signed values in two's complement. A store is made by xal_load and kept by the host, who may read any word of it: the first
+ * by XAL_WORD_.., then for each element, event input and variable those that start at XAL_ELEMENT_AT, XAL_EVENT_INPUT_AT and XAL_VARIABLE_AT.
  * Words past the need are never touched by any call.
+ *
+ * XAL_STORE_LAYOUT is the number of this layout. It rises with each version in which a word moves or takes another meaning. So
+ *   - a host that reads words says which layout it was written for, and does not compile with another:
+ *         #if XAL_STORE_LAYOUT != 1
+ *         #error "this host reads the store by layout 1"
+ *         #endif
+ *   - a host that keeps stores longer than it runs, or sends them, writes the number beside each and loads anew where it is another;
+ *   - header and library are of one version. A host that is linked with a library of another mostly sees it at its start, by
+ *     xal_need(table) != XAL_NEED(its numbers of frames).
  */
+#define XAL_STORE_LAYOUT 1
+
 enum {
     XAL_WORD_NOW = 0,
     XAL_WORD_RUNNING_ELEMENT = 1, /* plus 1, or 0 */
     XAL_WORD_CURRENT_EVENT = 2,   /* plus 1, or 0 */
-    XAL_WORD_BIRTH = 3,
-    XAL_WORD_MODE = 4,            /* 0 idle, 1 charts, 2 acts */
-    XAL_WORD_LIVE = 5,
-    XAL_WORD_ACTION = 6,
+    XAL_WORD_BIRTH = 3,           /* of the current event */
+    XAL_WORD_MODE = 4,            /* XAL_MODE_.. */
+    XAL_WORD_LIVE = 5,            /* 1 until the current event has enabled a transition */
+    XAL_WORD_ACTION = 6,          /* of the present state, from 1; 0 for none */
     XAL_WORD_STEP = 7,
     XAL_WORD_OVERWRITTEN = 8,     /* events that came to an input that waited already; stops at 4,294,967,295 */
-    XAL_STORE_HEAD = 16,
+    XAL_STORE_HEAD = 16,          /* words before those of the elements; from 9 on they are zero */
     XAL_ELEMENT_WORDS = 3,
-    XAL_ELEMENT_STATE = 0,
+    XAL_ELEMENT_STATE = 0,        /* chart state of a basic element, else 0 */
     XAL_ELEMENT_DUE_FLAG = 1,     /* 1 on a delay that is running, else 0 */
     XAL_ELEMENT_DUE_TIME = 2,
     XAL_EVENT_INPUT_WORDS = 3,
-    XAL_VARIABLE_WORDS = 2
+    XAL_EVENT_INPUT_WAITING = 0,  /* 1 or 0 */
+    XAL_EVENT_INPUT_BIRTH = 1,
+    XAL_EVENT_INPUT_LAST_UPDATE = 2,
+    XAL_VARIABLE_WORDS = 2,
+    XAL_VARIABLE_VALUE = 0,
+    XAL_VARIABLE_BUFFER = 1       /* 0 unless an input */
 };
 
-/* The need: so many words must a store have, by the number of frames of three kinds. A constant where the numbers are. */
-#define XAL_NEED(elements, event_inputs, variables)                                                            \
-    ((size_t)XAL_STORE_HEAD + (size_t)XAL_ELEMENT_WORDS * (size_t)(elements) +                                 \
-     (size_t)XAL_EVENT_INPUT_WORDS * (size_t)(event_inputs) + (size_t)XAL_VARIABLE_WORDS * (size_t)(variables))
+enum {
+    XAL_MODE_IDLE = 0,
+    XAL_MODE_CHARTS = 1,
+    XAL_MODE_ACTS = 2
+};
+
+/* Where the words of an element, of an event input and of a variable start, by its id and the number of elements and event inputs. */
+#define XAL_ELEMENT_AT(element) ((size_t)XAL_STORE_HEAD + (size_t)XAL_ELEMENT_WORDS * (size_t)(element))
+#define XAL_EVENT_INPUT_AT(elements, event_input) (XAL_ELEMENT_AT(elements) + (size_t)XAL_EVENT_INPUT_WORDS * (size_t)(event_input))
+#define XAL_VARIABLE_AT(elements, event_inputs, variable) \
+    (XAL_EVENT_INPUT_AT(elements, event_inputs) + (size_t)XAL_VARIABLE_WORDS * (size_t)(variable))
+
+/* The need: so many words a store must have, by the number of frames of three kinds. A constant where the numbers are. */
+#define XAL_NEED(elements, event_inputs, variables) XAL_VARIABLE_AT(elements, event_inputs, variables)
 
 /* The need of the greatest table: a store of so many words suits every table. */
 #define XAL_MAX_NEED XAL_NEED(XAL_MAX_ELEMENTS, XAL_MAX_EVENT_INPUTS, XAL_MAX_VARIABLES)

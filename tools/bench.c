@@ -2,11 +2,14 @@
 //
 //   bench MODE FRAME..      MODE: times, calls or stack; each FRAME is a line of a small table, in hexadecimal
 //
-// It includes no header: the kit's compiler, which builds it on every machine, has none.
+// tools/libc has what the other hosts use of the C library's headers; what is wanted besides is declared here.
+#include <stdio.h>
+
+#include "xaluudhiga.h"
+
 typedef unsigned char byte;
 typedef unsigned long word;
 
-int printf(const char *, ...);
 int strcmp(const char *, const char *);
 void *memcpy(void *, const void *, word);
 void *memset(void *, int, word);
@@ -16,8 +19,6 @@ struct timespec {
 };
 int clock_gettime(int, struct timespec *);
 enum { PROCESS_CPU_TIME = 2 };
-
-word xal_check(const byte *table, word length);
 
 // ---- tables: `groups` copies of one group of 512 frames, so that each size has the same work for a frame
 

@@ -3,14 +3,15 @@ use mathlib.Core.List.{List, [], _∷_, _++_}
 use Prim.Native.Nat.{ℕ, _+_, _*_}
 use lib.IntN.{ℤ, pos, negℤ}
 use lib.ListN.{replicate}
-use Rattle.number.specs.Word.{word}
-use Rattle.number.specs.Bytes.{wordAt}
-use Rattle.number.specs.Clip.{lowest}
-use Rattle.number.specs.Operation.{operation}
-use Rattle.table.specs.Judge.{Verdict}
-use Rattle.table_cases.specs.Worked.{frame, worked, bytes}
-use Rattle.store.specs.Word.{dueFlag, dueTime}
-use Rattle.cases.specs.Script.{Call, load, advance, arrival, run, stored, answered, printed}
+use Rattle.rules_numbers.specs.Word.{word}
+use Rattle.rules_numbers.specs.Bytes.{wordAt}
+use Rattle.rules_numbers.specs.Clip.{lowest}
+use Rattle.rules_numbers.specs.Operation.{operation}
+use Rattle.rules_tables.specs.Judge.{Verdict}
+use Rattle.cases_tables.specs.Worked.{frame, worked, bytes}
+use Rattle.rules_store.specs.Word.{dueFlag, dueTime}
+use Rattle.rules_calls.specs.Public.{Call, load, advance, arrival, run}
+use Rattle.cases.specs.Script.{stored, answered, printed}
 
 -- ---- the tables of the examples
 pub data Table : Type 0 where

@@ -1,4 +1,5 @@
-pub mod Script
 pub mod Cases
 pub mod Claim
+pub mod Script
 pub mod Step
+pub mod laws

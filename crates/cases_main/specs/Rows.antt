@@ -1,16 +1,10 @@
--- The definition cases as the program has them: a row of numbers each. What the program runs are these rows, and each fits its buffers.
-use mathlib.Core.Path.{_≡_, refl}
-use mathlib.Core.Bool.{Bool, true}
+-- The definition cases as the program has them: a row of numbers each.
 use mathlib.Core.List.{List, [], _∷_, _++_, map}
-use Prim.Native.Nat.{ℕ, _+_, _-_, _<_, _≤_}
-use lib.Dec.{leb}
-use lib.ListN.{getD, length, take, drop}
-use borrow.Author.Tests.{leb-true}
-use Rattle.walk.specs.Pick.{both, both3}
-use Rattle.walk.specs.All.{allTo, all-at}
-use Rattle.number.specs.Word.{word}
-use Rattle.number.specs.Bytes.{halfAt}
-use Rattle.cases.specs.Script.{Call as «CallOf», load, advance, arrival, run}
+use Prim.Native.Nat.{ℕ, _+_, _≤_}
+use lib.ListN.{getD, length}
+use Rattle.rules_numbers.specs.Word.{word}
+use Rattle.rules_numbers.specs.Bytes.{halfAt}
+use Rattle.rules_calls.specs.Public.{Call as «CallOf», load, advance, arrival, run}
 use Rattle.cases.specs.Cases.{Table, doubler, repeated, delayed, framesIn, Asked, answer, recorded, due, result, Case, cases}
 use Rattle.cases_main.specs.declared.data.Frame.{Frame}
 use Rattle.cases_main.specs.declared.data.Call.{Call}
@@ -27,7 +21,7 @@ unfoldable pub frames : List Frame
 frames = map asFrame (framesIn repeated ++ framesIn delayed)
 
 -- ---- calls
-abbrev asCall : «CallOf» → Call
+abbrev pub asCall : «CallOf» → Call
 asCall load = (1, 0, 0)
 asCall (advance t) = (2, t, 0)
 asCall (arrival o birth []) = (3, birth, 0)
@@ -75,32 +69,8 @@ rows = map (λ (k : Case). asRow (k .asked) (k .want)) cases
 abbrev pub noRow : Row
 noRow = (0, 0, 0, 0, 0, 0, 0, 0, 0, 0, 0, 0, 0, 0)
 
--- the calls of a case are those of its row
-abbrev before : Asked → List «CallOf»
-before (answer t words room cs c) = cs
-before (recorded t words room cs b) = cs
-before (due t words room cs) = cs
-before (result op b c) = []
-
-pub calls-right : map (λ (r : Row). take (r .5 - r .4) (drop (r .4) calls)) rows ≡ map (λ (k : Case). map asCall (before (k .asked))) cases
-calls-right = refl
-
 -- ---- a row that fits the program's buffers
 pub record Fits (r : Row) : Type 0 where
   pub words : r .2 ≤ 40
   pub room : r .3 ≤ 4096
   pub last : r .5 ≤ 10
-
-fits : ℕ → Bool
-fits i = let r = getD rows i noRow in both (leb (r .2) 40) (both (leb (r .3) 4096) (leb (r .5) 10))
-
-all-fit : allTo fits 20 ≡ true
-unfolding fits allTo
-all-fit = refl
-
-pub row-fits : (i : ℕ) → i < 20 → Fits (getD rows i noRow)
-unfolding fits
-row-fits i h =
-    let r = getD rows i noRow in
-    let w = both3 (leb (r .2) 40) (leb (r .3) 4096) (leb (r .5) 10) (all-at fits 20 i h all-fit) in
-    record { words = leb-true _ _ (w .0); room = leb-true _ _ (w .1); last = leb-true _ _ (w .2) }

@@ -9,15 +9,15 @@ use crate::data::Frame;
 use crate::data::Row;
 use crate::data::call_at;
 use crate::data::frame_at;
-use number::bytes::word_at;
-use number::operation::operate_words;
-use store::word::due_flag;
-use store::word::due_time;
-use xaluudhiga::calls::Answer;
-use xaluudhiga::calls::advance;
-use xaluudhiga::calls::arrival;
-use xaluudhiga::calls::load;
-use xaluudhiga::calls::run;
+use calls::advance;
+use calls::arrival;
+use calls::load;
+use calls::run;
+use numbers::bytes::word_at;
+use numbers::operation::operate_words;
+use rules_calls::Answer;
+use store_words::word::due_flag;
+use store_words::word::due_time;
 
 // ---- The tables
 

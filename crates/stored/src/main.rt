@@ -4,22 +4,24 @@
 // becomes 2: so refusals 5 and 6 come about, which no session can bring about by itself. (second/src/bin/stored.rs writes the input.)
 ghost use Prim.Native.Nat.{_+_, _≤_, _<_};
 ghost use lib.ListN.{length};
-use dialogue::Session;
-use dialogue::stretch;
-use dialogue::take_byte;
-use dialogue::take_end;
 use libc::STDIN_FILENO;
 use libc::STDOUT_FILENO;
+use session_dialogue::feeding::END_ROOM;
+use session_dialogue::feeding::feed;
+use session_dialogue::feeding::finish;
+use session_dialogue::part::has_room;
+use session_dialogue::part::stretch;
+use session_dialogue::session::Session;
 
-// The place of the next `=` from `from` on, or the end.
-fn next_mark(all: &[u8], from: usize) -> usize
+// The place of the next such mark from `from` on, or the end.
+fn next_mark(all: &[u8], mark: u8, from: usize) -> usize
     requires { ⌜ from ≤ length (now all) ⌝ }
     ensures { λ r. ⌜ (from ≤ r) × (r ≤ length (now (all .entry))) ⌝ }
 {
     let n = all.len();
     let mut i = from;
     while i < n {
-        if all[i] == 61 {
+        if all[i] == mark {
             return i;
         }
         i += 1;
@@ -71,29 +73,22 @@ fn spoil(store: &mut [u32]) {
     }
 }
 
-// A byte of a session, or the mark that spoils the store. Where the text has no room left, nothing happens, and the answer will differ.
-fn take(
-    table: &mut [u8],
-    store: &mut [u32],
-    values: &mut [u32],
-    line: &mut [u8],
-    b: u8,
-    text: &mut [u8],
-    s: Session,
-) -> Session {
-    if b == 35 {
+// The same at a mark, which is one before the end.
+fn spoil_at(store: &mut [u32], to: usize, end: usize) {
+    if to < end {
         spoil(store);
-        return s;
     }
-    if text.len() < 12338 {
-        return s;
-    }
-    if text.len() - 12338 < s.at {
-        return s;
-    }
-    take_byte(table, store, values, line, b, text, s)
 }
 
+// The place after a mark, or the end.
+fn past(to: usize, end: usize) -> usize
+    requires { ⌜ to ≤ end ⌝ }
+    ensures { λ r. ⌜ (r ≤ end) × (to ≤ r) × (to < end → to < r) ⌝ }
+{
+    if to < end { to + 1 } else { end }
+}
+
+// The end of a session. Where the text has no room left, nothing happens, and the answer will differ.
 fn take_rest(
     table: &mut [u8],
     store: &mut [u32],
@@ -102,16 +97,14 @@ fn take_rest(
     text: &mut [u8],
     s: Session,
 ) -> Session {
-    if text.len() < 12363 {
+    if !has_room(text, s.at, END_ROOM) {
         return s;
     }
-    if text.len() - 12363 < s.at {
-        return s;
-    }
-    take_end(table, store, values, line, text, s)
+    finish(table, store, values, line, text, s)
 }
 
-// The whole of a session; the answer is how many bytes it printed.
+// The whole of a session, in pieces: at the mark between two of them the store is spoilt. The answer is how many bytes it printed. Where the text has no room
+// left, the rest of a piece is not taken, and the answer will differ.
 fn play(
     table: &mut [u8],
     store: &mut [u32],
@@ -122,10 +115,21 @@ fn play(
 ) -> usize {
     let n = input.len();
     let mut s = Session::new();
-    let mut i = 0;
-    while i < n {
-        s = take(table, store, values, line, input[i], text, s);
-        i += 1;
+    let mut from = 0;
+    while from < n {
+        let to = next_mark(input, b'#', from);
+        let fed = feed(
+            table,
+            store,
+            values,
+            line,
+            between(input, from, to),
+            text,
+            s,
+        );
+        s = fed.session;
+        spoil_at(store, to, n);
+        from = past(to, n);
     }
     let r = take_rest(table, store, values, line, text, s);
     r.at
@@ -155,7 +159,7 @@ fn begins_short(input: &[u8]) -> bool {
     if input.len() == 0 {
         return false;
     }
-    input[0] == 37
+    input[0] == b'%'
 }
 
 // Tells of session number k whether it printed its answer.
@@ -199,9 +203,9 @@ fn tell_all(all: &[u8])
     let mut k = 0;
     let mut right = 0;
     while from < n {
-        let to = next_mark(all, from);
+        let to = next_mark(all, b'=', from);
         let answer = after_mark(all, to);
-        let end = next_mark(all, answer);
+        let end = next_mark(all, b'=', answer);
         let is_right = one(all, from, to, answer, end);
         tell(k, is_right);
         right = counted(right, is_right);

@@ -1,7 +1,7 @@
 -- Every row fits the program's buffers (`row-fits`). The invariant bounds the row's number and the count, and the measure is how many rows are left.
 use borrow.Author.Needs.{needs}
 use Prim.Native.Nat.{_-_, _≤_}
-use Rattle.cases_main.specs.Rows.{row-fits}
+use Rattle.cases_main.specs.laws.Rows.{row-fits}
 use Rattle.cases_main.proofs.main.Statement.{statement}
 use Rattle.cases_main.proofs.main.Tie as tie
 

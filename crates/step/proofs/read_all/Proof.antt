@@ -8,7 +8,7 @@ use Rattle.step.proofs.read_all.Tie as tie
 
 abbrev Inv-loop : tie.InvT-loop
 Inv-loop table₀ store₀ values₀ line₀ input₀ text₀ s₀ turns₀ table store values line input text s turns =
-    (s .at + 16384 ≤ length text) × (length text ≡ length text₀) × (length input ≡ length input₀) × (length table ≡ length table₀) × (length store ≡ length store₀) × (length values ≡ length values₀) × (length line ≡ length line₀)
+    (s .at + 12363 ≤ length text) × (length text ≡ length text₀) × (length input ≡ length input₀) × (length table ≡ length table₀) × (length store ≡ length store₀) × (length values ≡ length values₀) × (length line ≡ length line₀)
 
 abbrev μ-loop : tie.MeasureT-loop
 μ-loop table₀ store₀ values₀ line₀ input₀ text₀ s₀ turns₀ table store values line input text s turns =

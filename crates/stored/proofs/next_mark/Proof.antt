@@ -6,10 +6,10 @@ use Rattle.stored.proofs.next_mark.Statement.{statement}
 use Rattle.stored.proofs.next_mark.Tie as tie
 
 abbrev Inv-loop : tie.InvT-loop
-Inv-loop all from n i₀ i = (from ≤ i) × (i ≤ length all)
+Inv-loop all mark from n i₀ i = (from ≤ i) × (i ≤ length all)
 
 abbrev μ-loop : tie.MeasureT-loop
-μ-loop all from n i₀ i = length all - i
+μ-loop all mark from n i₀ i = length all - i
 
 loop-holds : tie.Need-loop-holds Inv-loop μ-loop
 loop-holds c = search needs

@@ -1,8 +1,8 @@
 -- Computed: the constants are the frames of the definitions, field by field.
 use borrow.Author.Needs.{needs}
 use mathlib.Core.Path.{refl}
-use Rattle.number.specs.Bytes.{halfAt}
-use Rattle.table_cases.specs.Worked.{worked}
+use Rattle.rules_numbers.specs.Bytes.{halfAt}
+use Rattle.cases_tables.specs.Worked.{worked}
 use Rattle.cases.specs.Cases.{framesIn}
 use Rattle.cases_main.specs.Rows.{frames}
 use Rattle.cases_main.proofs.data.frame_at.Statement.{statement}

@@ -1,3 +1,0 @@
-pub mod Bit
-pub mod Bits
-pub mod Marked

@@ -1,0 +1,69 @@
+-- What each way through advance and arrival leaves, over plain variables.
+use mathlib.Core.Path.{_≡_, sym, _∙_}
+use mathlib.Core.List.{List}
+use mathlib.Core.Bool.{Bool, true, false}
+use Prim.Native.Nat.{ℕ, _<_}
+use native.Mathlib.Omega.{arith}
+use lib.Dec.{eqb, ltb}
+use lib.ListN.{getD}
+use borrow.Author.Tests.{eqb-true}
+use Rattle.rules_walks.specs.laws.Pick.{both-right}
+use Rattle.rules_walks.specs.laws.Choose.{choose-true, choose-false}
+use Rattle.rules_walks.specs.Count.{countIf}
+use Rattle.rules_walks.specs.First.{one, missing}
+use Rattle.rules_walks.specs.laws.First.{first-in}
+use Rattle.rules_tables.specs.Kind.{source, ofOutput}
+use Rattle.rules_tables.specs.Frame.{flagAt, fieldAt}
+use Rattle.rules_tables.specs.declared.Shape.{Shape}
+use Rattle.rules_tables.specs.Ids.{firstOutput, outputs, associationFrame}
+use Rattle.rules_store.specs.Word.{putDue, putValue}
+use Rattle.table_parts.specs.declared.Found.{Found}
+use Rattle.table_parts.specs.declared.Found.the-variants.{One, Missing}
+use Rattle.rules_tables.specs.Owned.{any, isNth, nth}
+use Rattle.table_parts.specs.Found.{foundOf}
+use Rattle.table_parts.specs.laws.Found.{found-one, found-missing}
+use Rattle.rules_moves.specs.Partner.{outputOwner}
+use Rattle.rules_moves.specs.laws.Partner.{own-voice}
+use Rattle.rules_moves.specs.Carry.{voice, voiceOf, speaks}
+use Rattle.moves_fire.specs.Carried.{Carried}
+use Rattle.rules_moves.specs.Fire.{fire}
+use Rattle.rules_moves.specs.Take.{fireFound}
+use Rattle.rules_calls.specs.Calls.{dueAt, expired, expire, give, ofSource}
+
+module _ (T : List ℕ) (S : Shape) (t el : ℕ) (s s′ : List ℕ) where
+  pub expire-due : {b : Bool} → b ≡ dueAt s t el → b ≡ true → s′ ≡ expired T S t el s → s′ ≡ expire T S t el s
+  unfolding expire
+  expire-due p q u = rw (choose-true _ _ _ (sym p ∙ q)) u
+
+  pub expire-not : {b : Bool} → b ≡ dueAt s t el → b ≡ false → s′ ≡ s → s′ ≡ expire T S t el s
+  unfolding expire
+  expire-not p q u = rw (choose-false _ _ _ (sym p ∙ q)) u
+
+  module _ {n : ℕ} (many : n ≡ outputs S) {f : Found} (found : f ≡ foundOf (nth T (firstOutput S) n any el 0)) where
+    pub output-missing : f ≡ Missing → s′ ≡ putDue el 0 0 s → s′ ≡ expired T S t el s
+    unfolding expired fireFound
+    output-missing m u = let e : nth T (firstOutput S) (outputs S) any el 0 ≡ missing = rw many at (found-missing (nth T (firstOutput S) n any el 0) _ found m) in rw e u
+
+    pub output-fired : (o : ℕ) {s₁ : List ℕ} → f ≡ One o → s₁ ≡ fire T S o t t s → s′ ≡ putDue el 0 0 s₁ → s′ ≡ expired T S t el s
+    unfolding expired fireFound
+    output-fired o m p u =
+        let e : nth T (firstOutput S) (outputs S) any el 0 ≡ one o = rw many at (found-one (nth T (firstOutput S) n any el 0) _ o found m) in rw (e, ← p) u
+
+pub output-known : (T : List ℕ) (S : Shape) (el n o : ℕ) {f : Found} → n ≡ outputs S → f ≡ foundOf (nth T (firstOutput S) n any el 0) → f ≡ One o → o < outputs S
+output-known T S el n o e p m = let h = first-in (isNth T (firstOutput S) any el 0) 0 n o (found-one (nth T (firstOutput S) n any el 0) _ o p m) in omega arith
+
+module _ (T : List ℕ) (S : Shape) (o : ℕ) (vs : List ℕ) (j : ℕ) (s s′ : List ℕ) {b : Bool} (told : b ≡ speaks T S (voice ofOutput o) j) where
+  pub give-one : {v k : ℕ} → b ≡ true → v ≡ fieldAt T (associationFrame S j) 1 → k ≡ countIf (speaks T S (voice ofOutput o)) j → s′ ≡ putValue S v (getD vs k 0) s → s′ ≡ give T S o vs j s
+  unfolding give
+  give-one q r a u = rw (choose-true _ _ _ (sym told ∙ q), ← r, ← a) u
+
+  pub give-none : b ≡ false → s′ ≡ s → s′ ≡ give T S o vs j s
+  unfolding give
+  give-none q u = rw (choose-false _ _ _ (sym told ∙ q)) u
+
+-- an event output of a source is no interface's
+pub source-carries : (T : List ℕ) (S : Shape) (o : ℕ) (m : List ℕ) → ofSource T S o ≡ true → Carried T S (voice ofOutput o) m → Carried T S (voiceOf T S o) m
+unfolding ofSource
+source-carries T S o m e h =
+    let k = eqb-true (flagAt T (outputOwner T S o)) source (both-right (ltb o (outputs S)) (eqb (flagAt T (outputOwner T S o)) source) e) in
+    rw (own-voice T S o (λ z. omega arith)) h

@@ -1,0 +1,181 @@
+// Advance and arrival.
+ghost use mathlib.Core.Path.{_≡_};
+ghost use mathlib.Core.Bool.{true};
+ghost use Prim.Native.Nat.{_<_};
+ghost use lib.ListN.{length};
+ghost use Rattle.rules_walks.specs.Walk.{upTo};
+ghost use Rattle.rules_tables.specs.Kind.{ofOutput};
+ghost use Rattle.rules_tables.specs.Good.{Good};
+ghost use Rattle.rules_tables.specs.Ids.{elements as «elementsOf», associations as «associationsOf»};
+ghost use Rattle.rules_moves.specs.Carry.{voice};
+ghost use Rattle.moves_fire.specs.Carried.{Carried};
+ghost use Rattle.rules_calls.specs.Calls.{dueAt, expired, expire, advanced, wrongTime, dueBefore, beyondDue, give, arrived, ofSource, valueCount as «valueCountOf»};
+use moves_fire::carry::speaks;
+use moves_fire::fire;
+use moves_fire::fire_carrying;
+use moves_take::record::speaking;
+use numbers_bits::mark;
+use rules_moves::Voice;
+use rules_tables::Shape;
+use store_words::shape::association_frame;
+use store_words::shape::associations;
+use store_words::shape::output_frame;
+use store_words::shape::outputs;
+use store_words::word::due_flag;
+use store_words::word::due_time;
+use store_words::word::put_due;
+use store_words::word::put_time;
+use store_words::word::put_value;
+use store_words::word::time;
+use table_frames::frame::field;
+use table_frames::frame::flag;
+use table_frames::kind::OF_OUTPUT;
+use table_frames::kind::SOURCE;
+use table_parts::ANY;
+use table_parts::Found;
+use table_parts::nth;
+
+// Element el is due at the time `to`.
+fn due_at(store: &[u32], el: usize, to: u32) -> bool
+    requires { ⌜ el < 4294967296 ⌝ }
+    ensures { λ r. ⌜ r ≡ dueAt (now (store .entry)) to el ⌝ }
+{
+    if due_flag(store, el) == 0 {
+        return false;
+    }
+    due_time(store, el) == to
+}
+
+// Delay el, due at the time `to`, fires with that birth and is cleared.
+fn expire_delay(t: &[u8], store: &mut [u32], shape: Shape, el: usize, to: u32)
+    requires { ⌜ Good (now t) shape × (el < 4294967296) ⌝ }
+    ensures { λ _. ⌜ now (store .exit) ≡ expired (now (t .entry)) shape to el (now (store .entry)) ⌝ }
+{
+    let Found::One(o) = nth(t, shape.inputs_end, outputs(shape), ANY, el, 0) else {
+        put_due(store, el, 0, 0);
+        return;
+    };
+    fire(t, store, shape, o, to, to);
+    put_due(store, el, 0, 0);
+}
+
+// Advance sets now, then fires, with birth `to`, each delay due then and clears it.
+pub fn advance_to(t: &[u8], store: &mut [u32], shape: Shape, to: u32)
+    requires { ⌜ Good (now t) shape ⌝ }
+    ensures { λ _. ⌜ now (store .exit) ≡ advanced (now (t .entry)) shape to (now (store .entry)) ⌝ }
+{
+    put_time(store, to);
+    expire_all(t, store, shape, to);
+}
+
+fn expire_all(t: &[u8], store: &mut [u32], shape: Shape, to: u32)
+    requires { ⌜ Good (now t) shape ⌝ }
+    ensures { λ _. ⌜ now (store .exit) ≡ upTo (expire (now (t .entry)) shape to) (elementsOf shape) (now (store .entry)) ⌝ }
+{
+    let n = shape.elements_end;
+    let mut el = 0;
+    while el < n {
+        if due_at(store, el, to) {
+            expire_delay(t, store, shape, el, to);
+        }
+        el += 1;
+    }
+}
+
+// A time before now or above the largest.
+pub fn wrong_time(store: &[u32], to: u32) -> bool
+    ensures { λ r. ⌜ r ≡ wrongTime (now (store .entry)) to ⌝ }
+{
+    if to < time(store) {
+        return true;
+    }
+    2147483647 < to
+}
+
+fn due_before(store: &[u32], el: usize, to: u32) -> bool
+    requires { ⌜ el < 4294967296 ⌝ }
+    ensures { λ r. ⌜ r ≡ dueBefore (now (store .entry)) to el ⌝ }
+{
+    if due_flag(store, el) == 0 {
+        return false;
+    }
+    due_time(store, el) < to
+}
+
+// A time beyond the due time of a delay.
+pub fn beyond_due(t: &[u8], store: &[u32], shape: Shape, to: u32) -> bool
+    requires { ⌜ Good (now t) shape ⌝ }
+    ensures { λ r. ⌜ r ≡ beyondDue shape (now (store .entry)) to ⌝ }
+{
+    let n = shape.elements_end;
+    let mut el = 0;
+    while el < n {
+        if due_before(store, el, to) {
+            return true;
+        }
+        el += 1;
+    }
+    false
+}
+
+// The values go into the associated output variables in table order; the answer is the set of these variables, which are what the event carries.
+fn give_all(t: &[u8], store: &mut [u32], shape: Shape, o: usize, values: &[u32]) -> [u32; 16]
+    requires { ⌜ Good (now t) shape × (length (now values) ≡ valueCountOf (now t) shape o) ⌝ }
+    ensures { λ r. ⌜ (now (store .exit) ≡ upTo (give (now (t .entry)) shape o (now (values .entry))) (associationsOf shape) (now (store .entry))) × Carried (now (t .entry)) shape (voice ofOutput o) r ⌝ }
+{
+    let n = associations(shape);
+    let w = Voice {
+        flag: OF_OUTPUT,
+        event: o,
+    };
+    let mut m = [0u32; 16];
+    let mut k = 0;
+    let mut j = 0;
+    while j < n {
+        if speaks(t, shape, w, j) {
+            let v = field(t, association_frame(t, shape, j), 1);
+            put_value(store, shape, v, values[k]);
+            mark(&mut m, v);
+            k += 1;
+        }
+        j += 1;
+    }
+    m
+}
+
+// Arrival puts its values into the associated output variables, then fires with the given birth. A source's event speaks by these associations.
+pub fn arrive(t: &[u8], store: &mut [u32], shape: Shape, o: usize, birth: u32, values: &[u32])
+    requires { ⌜ Good (now t) shape × (ofSource (now t) shape o ≡ true) × (length (now values) ≡ valueCountOf (now t) shape o) ⌝ }
+    ensures { λ _. ⌜ now (store .exit) ≡ arrived (now (t .entry)) shape o birth (now (values .entry)) (now (store .entry)) ⌝ }
+{
+    let at = time(store);
+    let m = give_all(t, store, shape, o, values);
+    fire_carrying(t, store, shape, o, &m, birth, at);
+}
+
+// An event output of a source.
+pub fn of_source(t: &[u8], shape: Shape, o: usize) -> bool
+    requires { ⌜ Good (now t) shape ⌝ }
+    ensures { λ r. ⌜ r ≡ ofSource (now (t .entry)) shape o ⌝ }
+{
+    if o < outputs(shape) {
+        flag(t, field(t, output_frame(t, shape, o), 0)) == SOURCE
+    } else {
+        false
+    }
+}
+
+// How many values an arrival of event output o has.
+pub fn value_count(t: &[u8], shape: Shape, o: usize) -> usize
+    requires { ⌜ Good (now t) shape ⌝ }
+    ensures { λ r. ⌜ r ≡ valueCountOf (now (t .entry)) shape o ⌝ }
+{
+    speaking(
+        t,
+        shape,
+        Voice {
+            flag: OF_OUTPUT,
+            event: o,
+        },
+    )
+}

@@ -1,2 +1,0 @@
-pub mod Chart
-pub mod Found

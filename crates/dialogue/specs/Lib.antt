@@ -1,3 +1,0 @@
-pub mod Program
-pub mod Whole
-pub mod Fits

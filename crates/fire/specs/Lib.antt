@@ -1,8 +1,0 @@
-pub mod Partner
-pub mod Partners
-pub mod Carry
-pub mod Carrying
-pub mod Fire
-pub mod Untouched
-pub mod Joined
-pub mod Firing

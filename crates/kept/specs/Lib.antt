@@ -1,5 +1,0 @@
-pub mod Formed
-pub mod Means
-pub mod Keeping
-pub mod Blocks
-pub mod Loading

@@ -1,3 +1,0 @@
-pub mod Least
-pub mod Within
-pub mod Leastness

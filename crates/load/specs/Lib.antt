@@ -1,3 +1,0 @@
-pub mod WellFormed
-pub mod Load
-pub mod Untouched

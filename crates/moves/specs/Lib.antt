@@ -1,4 +1,0 @@
-pub mod Act
-pub mod Next
-pub mod Sizes
-pub mod Moving

@@ -1,0 +1,3 @@
+pub mod Carried
+pub mod Carrying
+pub mod laws

@@ -1,0 +1,217 @@
+-- What each way through a move leaves, over plain variables.
+use mathlib.Core.Path.{_≡_, refl, sym, ap, _∙_}
+use mathlib.Core.List.{List}
+use mathlib.Core.Bool.{Bool, true, false}
+use Prim.Native.Nat.{ℕ, _+_, _-_, _<_, _≤_}
+use native.Mathlib.Omega.{arith}
+use lib.Dec.{eqb}
+use lib.IntN.{pos}
+use lib.ListN.{length}
+use borrow.Author.Tests.{eq-eqb, ne-eqb, lt-ltb, le-ltb, eqb-true}
+use Rattle.rules_walks.specs.Pick.{pick}
+use Rattle.rules_walks.specs.laws.Pick.{both-right}
+use Rattle.rules_walks.specs.laws.Choose.{choose-true, choose-false}
+use Rattle.rules_walks.specs.laws.Count.{count-le}
+use Rattle.rules_walks.specs.First.{one, missing}
+use Rattle.rules_walks.specs.laws.First.{first-in, first-true}
+use Rattle.rules_numbers.specs.Word.{signed, word}
+use Rattle.rules_numbers.specs.Operation.{operation}
+use Rattle.rules_tables.specs.Kind.{none}
+use Rattle.rules_tables.specs.Frame.{flagAt, fieldAt}
+use Rattle.rules_tables.specs.declared.Shape.{Shape}
+use Rattle.rules_store.specs.declared.Running.{Running}
+use Rattle.rules_tables.specs.Good.{Good}
+use Rattle.rules_tables.specs.Ids.{firstAction, outputs, actions, actionFrame, stepFrame}
+use Rattle.rules_store.specs.Running.{idle, charts, stepped, entered, charting}
+use Rattle.rules_store.specs.Word.{currentEvent, runningOf, putRunning, value, putValue, birthOf}
+use Rattle.table_parts.specs.declared.Found.{Found}
+use Rattle.table_parts.specs.declared.Found.the-variants.{One, Missing}
+use Rattle.rules_tables.specs.Owned.{any, belongs, isNth, nth, rank}
+use Rattle.table_parts.specs.Found.{foundOf}
+use Rattle.table_parts.specs.laws.Found.{found-one, found-missing}
+use Rattle.rules_moves.specs.Fire.{fire}
+use Rattle.rules_moves.specs.declared.Key.{Key}
+use Rattle.rules_moves.specs.declared.Best.{Best}
+use Rattle.rules_moves.specs.declared.Best.the-variants.{At, Nothing as «NoEvent»}
+use Rattle.rules_moves.specs.Least.{least}
+use Rattle.rules_moves.specs.Chart.{transitionOf, change, goIdle, elementOf, stateOf}
+use Rattle.rules_tables.specs.Actions.{actionOf, actionNumber}
+use Rattle.rules_tables.specs.laws.Actions.{action-below}
+use Rattle.rules_moves.specs.Take.{fireFound}
+use Rattle.rules_moves.specs.Record.{putOut}
+use Rattle.moves_take.specs.Received.{Sized, Received}
+use Rattle.rules_moves.specs.declared.Next.{Next}
+use Rattle.rules_moves.specs.declared.Next.the-variants.{Take, Change, Idle, Step, End, Back, Nothing}
+use Rattle.rules_moves.specs.Act.{oneStep, stepMove, eventOf, endMove}
+use Rattle.rules_moves.specs.Next.{eventNext, chartNext, actNext, nextBy, moveBy, writtenBy, sizeBy}
+use Rattle.moves_next.specs.Made.{Made}
+use Rattle.rules_moves.specs.Means.{Stepping, Ending}
+use Rattle.rules_moves.specs.laws.Next.{answer-means}
+
+-- ---- a step
+pub step-is : (T : List ℕ) (S : Shape) (f age : ℕ) (s s′ : List ℕ) {a b c x y g z : ℕ} → b ≡ fieldAt T f 1 → x ≡ value S s b → c ≡ fieldAt T f 2 → y ≡ value S s c → g ≡ flagAt T f
+    → z ≡ word (operation g (signed x) (signed y) (pos age)) → a ≡ fieldAt T f 0 → s′ ≡ putValue S a z s → s′ ≡ oneStep T S f age s
+unfolding oneStep
+step-is T S f age s s′ b x c y g z a u = rw (← a, ← b, ← c, ← g, ← x, ← y, ← z) u
+
+pub stepped-on : (T : List ℕ) (S : Shape) (time : ℕ) (r : Running) (j : ℕ) (s s′ : List ℕ) {f ag : ℕ} {s₁ : List ℕ} {r′ : Running} → f ≡ stepFrame S j → ag ≡ time - r .birth → s₁ ≡ oneStep T S f ag s
+    → r′ ≡ stepped r → s′ ≡ putRunning r′ s₁ → s′ ≡ stepMove T S time r j s
+unfolding stepMove
+stepped-on T S time r j s s′ {s₁ = s₁} a ag p q u =
+    let h : s₁ ≡ oneStep T S (stepFrame S j) (time - r .birth) s = rw (a, ag) at p in
+    u ∙ ap (λ (x : Running). putRunning x s₁) q ∙ ap (putRunning (stepped r)) h
+
+-- ---- the end of an action
+module _ (T : List ℕ) (S : Shape) (j birth time : ℕ) (s s′ : List ℕ) {o : ℕ} (read : o ≡ fieldAt T (actionFrame S j) 3) where
+  pub event-fired : (o ≡ none → ⊥) → s′ ≡ fire T S o birth time s → s′ ≡ fireFound T S (eventOf T S j) birth time s
+  unfolding eventOf fireFound
+  event-fired n u = rw (← read, choose-false _ _ _ (ne-eqb o none n)) u
+
+  pub event-none : o ≡ none → s′ ≡ s → s′ ≡ fireFound T S (eventOf T S j) birth time s
+  unfolding eventOf fireFound
+  event-none n u = rw (← read, choose-true _ _ _ (eq-eqb o none n)) u
+
+  pub event-in : Good T S → j < actions S → (o ≡ none → ⊥) → o < outputs S
+  event-in g l n = rw read (g .action-event j l (λ e. n (read ∙ e)))
+
+pub ended : (T : List ℕ) (S : Shape) (time : ℕ) (r : Running) (j : ℕ) (s s′ : List ℕ) {q k : ℕ} {s₁ : List ℕ} {r′ : Running} → q ≡ stateOf s → k ≡ actionNumber T S q (r .action + 1)
+    → s₁ ≡ fireFound T S (eventOf T S j) (r .birth) time s → r′ ≡ entered k r → s′ ≡ putRunning r′ s₁ → s′ ≡ endMove T S time (stateOf s) r j s
+unfolding endMove
+ended T S time r j s s′ {s₁ = s₁} a b p e u =
+    u ∙ ap (λ (x : Running). putRunning x s₁) e ∙ ap (λ (n : ℕ). putRunning (entered n r) s₁) (rw a at b) ∙ ap (putRunning (entered (actionNumber T S (stateOf s) (r .action + 1)) r)) p
+
+-- ---- what comes next
+module _ {x : Best} (found : Best) (told : x ≡ found) where
+  pub event-one : (i : ℕ) (k : Key) → x ≡ At i k → Take i ≡ eventNext found
+  unfolding eventNext
+  event-one i k e = rw (sym told ∙ e)
+
+  pub event-missing : x ≡ «NoEvent» → Nothing ≡ eventNext found
+  unfolding eventNext
+  event-missing e = rw (sym told ∙ e)
+
+module _ (T : List ℕ) (S : Shape) (s : List ℕ) (live : ℕ) {q event : ℕ} (state : q ≡ stateOf s) (heard : event ≡ currentEvent s) {f : Found}
+    (found : f ≡ foundOf (transitionOf T S s q event live)) where
+  pub chart-one : (j : ℕ) → f ≡ One j → Change j ≡ chartNext (transitionOf T S s (stateOf s) (currentEvent s) live)
+  unfolding chartNext
+  chart-one j e = rw (← state, ← heard, found-one (transitionOf T S s q event live) _ j found e)
+
+  pub chart-missing : f ≡ Missing → Idle ≡ chartNext (transitionOf T S s (stateOf s) (currentEvent s) live)
+  unfolding chartNext
+  chart-missing e = rw (← state, ← heard, found-missing (transitionOf T S s q event live) _ found e)
+
+module _ (T : List ℕ) (S : Shape) (r : Running) (s : List ℕ) {q k : ℕ} (state : q ≡ stateOf s) (number : k ≡ r .action) {f : Found} (found : f ≡ foundOf (actionOf T S q k)) where
+  pub act-missing : f ≡ Missing → Back ≡ actNext T S r (actionOf T S (stateOf s) (r .action))
+  unfolding actNext
+  act-missing m = rw (← state, ← number, found-missing (actionOf T S q k) _ found m)
+
+  pub act-in : (j : ℕ) → f ≡ One j → j < actions S
+  act-in j m = action-below T S q k j (found-one (actionOf T S q k) _ j found m)
+
+  module _ (j : ℕ) {g done n : ℕ} (one-is : f ≡ One j) (at : g ≡ actionFrame S j) (made : done ≡ r .step) (many : n ≡ fieldAt T g 2) where
+    is-one : actionOf T S (stateOf s) (r .action) ≡ one j
+    is-one = rw (state, number) at (found-one (actionOf T S q k) _ j found one-is)
+
+    pub act-step : {b : ℕ} → b ≡ fieldAt T g 1 → done < n → Step (b + done) ≡ actNext T S r (actionOf T S (stateOf s) (r .action))
+    unfolding actNext
+    act-step first l =
+        let h : r .step < fieldAt T (actionFrame S j) 2 = rw (made, many, at) at l in
+        rw (is-one, choose-true _ _ _ (lt-ltb _ _ h), ← at, ← first, ← made)
+
+    pub act-end : n ≤ done → End j ≡ actNext T S r (actionOf T S (stateOf s) (r .action))
+    unfolding actNext
+    act-end l =
+        let h : fieldAt T (actionFrame S j) 2 ≤ r .step = rw (made, many, at) at l in
+        rw (is-one, choose-false _ _ _ (le-ltb _ _ h))
+
+module _ (T : List ℕ) (S : Shape) (r : Running) (s : List ℕ) {n : Next} where
+  pub next-idle : r .mode ≡ idle → n ≡ eventNext (least T S s) → n ≡ nextBy T S r s
+  unfolding nextBy
+  next-idle m e = rw (choose-true _ _ _ (eq-eqb (r .mode) idle m)) e
+
+  pub next-charts : r .mode ≡ charts → n ≡ chartNext (transitionOf T S s (stateOf s) (currentEvent s) (r .live)) → n ≡ nextBy T S r s
+  unfolding nextBy
+  next-charts m e = rw (choose-false _ _ _ (ne-eqb (r .mode) idle (λ z. omega arith)), choose-true _ _ _ (eq-eqb (r .mode) charts m)) e
+
+  pub next-acts : (r .mode ≡ idle → ⊥) → (r .mode ≡ charts → ⊥) → n ≡ actNext T S r (actionOf T S (stateOf s) (r .action)) → n ≡ nextBy T S r s
+  unfolding nextBy
+  next-acts a b e = rw (choose-false _ _ _ (ne-eqb (r .mode) idle a), choose-false _ _ _ (ne-eqb (r .mode) charts b)) e
+
+-- ---- one move, by what comes next
+-- the number of an action is no larger than the number of actions
+action-few : (T : List ℕ) (S : Shape) (q k j : ℕ) → actionOf T S q k ≡ one j → k ≤ actions S
+unfolding actionOf isNth
+action-few T S q k j = by (eqb k 0)
+  where
+    by : (b : Bool) → pick b missing (nth T (firstAction S) (actions S) any q (k - 1)) ≡ one j → k ≤ actions S
+    by true e = absurd (let z : _≡_ {A = ℕ} 0 1 = cc in omega arith)
+    by false e =
+        let l = first-in (isNth T (firstAction S) any q (k - 1)) 0 (actions S) j e in
+        let t = first-true (isNth T (firstAction S) any q (k - 1)) 0 (actions S) j e in
+        let n = eqb-true (rank T (firstAction S) any q j) (k - 1) (both-right (belongs T (firstAction S) any q j) (eqb (rank T (firstAction S) any q j) (k - 1)) t) in
+        let c = count-le (belongs T (firstAction S) any q) j in
+        omega arith
+
+module _ (T : List ℕ) (S : Shape) (r : Running) (s : List ℕ) (n : Next) (comes : n ≡ nextBy T S r s) (g : Good T S) (j : ℕ) where
+  stepping : n ≡ Step j → Stepping T S r s j
+  stepping e = answer-means T S r s (Step j) (sym e ∙ comes)
+
+  ending : n ≡ End j → Ending T S r s j
+  ending e = answer-means T S r s (End j) (sym e ∙ comes)
+
+  few : actions S ≤ 4096
+  few = omega (arith, g .to-actions, g .to-steps, g .to-connections, g .to-links, g .to-end, g .few)
+
+  pub steps-few : n ≡ Step j → r .step < 4294967295
+  steps-few e =
+      let w = stepping e in
+      let h = g .action-steps (w .action) (r .step) (action-below T S (stateOf s) (r .action) (w .action) (w .found)) (w .left) in
+      omega (arith, g .to-steps, g .to-connections, g .to-links, g .to-end, g .few)
+
+  pub end-action : n ≡ End j → actionOf T S (stateOf s) (r .action) ≡ one j
+  end-action e = ending e .found
+
+  pub actions-few : n ≡ End j → r .action < 4294967295
+  actions-few e = let l = action-few T S (stateOf s) (r .action) j (ending e .found) in let h = few in omega arith
+
+module _ (T : List ℕ) (S : Shape) (time : ℕ) (n : Next) (s o : List ℕ) (at : ℕ) {s′ : List ℕ} where
+  pub made-take : (i : ℕ) {o′ : List ℕ} {p : ℕ} → n ≡ Take i → Received T S i time s s′ o o′ at p → Made T S time n s s′ o o′ at p
+  unfolding moveBy writtenBy sizeBy
+  made-take i e w = rw e (record { store = w .store-is; output = w .output-is; place = w .place-is })
+
+  pub made-idle : n ≡ Idle → s′ ≡ goIdle s → Made T S time n s s′ o o at at
+  unfolding moveBy writtenBy sizeBy
+  made-idle e u = rw e (record { store = u; output = refl; place = omega arith })
+
+  pub made-nothing : n ≡ Nothing → s′ ≡ s → Made T S time n s s′ o o at at
+  unfolding moveBy writtenBy sizeBy
+  made-nothing e u = rw e (record { store = u; output = refl; place = omega arith })
+
+  module _ {r : Running} (read : r ≡ runningOf s) where
+    pub made-change : (j : ℕ) → n ≡ Change j → s′ ≡ change T S (elementOf s) r j s → Made T S time n s s′ o o at at
+    unfolding moveBy writtenBy sizeBy
+    made-change j e u = rw e (record { store = rw (← read) u; output = refl; place = omega arith })
+
+    pub made-step : (j : ℕ) → n ≡ Step j → s′ ≡ stepMove T S time r j s → Made T S time n s s′ o o at at
+    unfolding moveBy writtenBy sizeBy
+    made-step j e u = rw e (record { store = rw (← read) u; output = refl; place = omega arith })
+
+    pub made-end : (j : ℕ) → n ≡ End j → s′ ≡ endMove T S time (stateOf s) r j s → Made T S time n s s′ o o at at
+    unfolding moveBy writtenBy sizeBy
+    made-end j e u = rw e (record { store = rw (← read) u; output = refl; place = omega arith })
+
+    pub made-back : {r′ : Running} → n ≡ Back → r′ ≡ charting r → s′ ≡ putRunning r′ s → Made T S time n s s′ o o at at
+    unfolding moveBy writtenBy sizeBy
+    made-back e p u = rw e (record { store = rw (← read, ← p) u; output = refl; place = omega arith })
+
+-- there is room for what an event writes
+pub room-for : (T : List ℕ) (S : Shape) (time : ℕ) (n : Next) (s : List ℕ) (at room i : ℕ) → n ≡ Take i → at + sizeBy T S time n s ≤ room
+    → at + length (putOut T S i (birthOf S s i) time s) ≤ room
+unfolding sizeBy writtenBy
+room-for T S time n s at room i e h = rw e at h
+
+-- ---- its size
+module _ (T : List ℕ) (S : Shape) (time : ℕ) (n : Next) (s : List ℕ) where
+  pub size-take : (i : ℕ) {z : ℕ} → n ≡ Take i → Sized T S i z → z ≡ sizeBy T S time n s
+  unfolding sizeBy writtenBy
+  size-take i e w = rw e (sym (w .bytes-are (birthOf S s i) time s))

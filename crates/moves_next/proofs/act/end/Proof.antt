@@ -1,0 +1,38 @@
+-- `end` meets its contract: the event is fired, then the next action comes (`ended`).
+use borrow.Author.Needs.{needs}
+use Rattle.moves_next.proofs.act.end.Statement.{statement}
+use Rattle.moves_next.proofs.Turns.{ended}
+use Rattle.moves_next.proofs.act.end.Tie as tie
+
+state-of-requires : tie.Need-state-of-requires
+state-of-requires c κs = search needs
+
+number-after-requires : tie.Need-number-after-requires
+number-after-requires c κs = (c .before .before .before .before .pre .0, c .before .before .before .before .pre .1, rw (← c .state-of .ensures) at (c .before .before .before .before .pre .2), c .before .before .before .before .pre .3)
+
+fire-event-requires : tie.Need-fire-event-requires
+fire-event-requires c κs = search needs
+
+entered-requires : tie.Need-entered-requires
+entered-requires c κs = search needs
+
+put-running-requires : tie.Need-put-running-requires
+put-running-requires c κs = search needs
+
+same-length : tie.Need-same-length
+same-length c = search needs
+
+returns : tie.Need-returns
+returns c = ended _ _ _ _ _ _ _ (c .before .before .before .before .before .before .before .before .before .before .state-of .ensures) (c .before .before .before .before .before .before .before .before .before .number-after .ensures) (c .before .before .before .before .before .before .before .fire-event .ensures) (c .before .before .before .entered .ensures) (c .before .before .put-running .ensures)
+
+pub end-spec : {M : Type 1} → statement M
+end-spec =
+    tie.close
+    (tie.spec
+    state-of-requires
+    number-after-requires
+    fire-event-requires
+    entered-requires
+    put-running-requires
+    same-length
+    returns)

@@ -1,0 +1,80 @@
+// Moves 4 and 5: a step, and the end of an action.
+ghost use mathlib.Core.Path.{_≡_};
+ghost use Prim.Native.Nat.{_-_, _<_, _≤_};
+ghost use Rattle.rules_tables.specs.Frame.{framesOf};
+ghost use Rattle.rules_tables.specs.Good.{Good};
+ghost use Rattle.store_words.specs.Small.{Small};
+ghost use Rattle.rules_tables.specs.Ids.{actions as «actionsOf», steps as «stepsOf»};
+ghost use Rattle.rules_walks.specs.First.{one};
+ghost use Rattle.rules_moves.specs.Take.{fireFound};
+ghost use Rattle.rules_tables.specs.Actions.{actionOf};
+ghost use Rattle.rules_moves.specs.Chart.{stateOf};
+ghost use Rattle.rules_moves.specs.Act.{oneStep, stepMove, eventOf, endMove};
+use moves_chart::number_after;
+use moves_chart::state_of;
+use moves_fire::fire;
+use numbers::operation::operate_words;
+use rules_store::Running;
+use rules_tables::Shape;
+use store_words::shape::action_frame;
+use store_words::shape::step_frame;
+use store_words::word::put_running;
+use store_words::word::put_value;
+use store_words::word::value_of;
+use table_frames::frame::field;
+use table_frames::frame::flag;
+use table_frames::kind::NONE;
+
+// How long ago, or 0.
+fn since(time: u32, birth: u32) -> u32
+    ensures { λ r. ⌜ (r ≡ time - birth) × (r ≤ time) ⌝ }
+{
+    if birth <= time { time - birth } else { 0 }
+}
+
+// The step at frame f.
+fn one_step(t: &[u8], store: &mut [u32], shape: Shape, f: usize, age: u32)
+    requires { ⌜ Small shape × (f < framesOf (now t)) × (age < 2147483648) ⌝ }
+    ensures { λ _. ⌜ now (store .exit) ≡ oneStep (now (t .entry)) shape f age (now (store .entry)) ⌝ }
+{
+    let b = value_of(store, shape, field(t, f, 1));
+    let c = value_of(store, shape, field(t, f, 2));
+    let x = operate_words(flag(t, f), b, c, age);
+    put_value(store, shape, field(t, f, 0), x);
+}
+
+// Step j is made.
+pub fn step(t: &[u8], store: &mut [u32], shape: Shape, time: u32, r: Running, j: usize)
+    requires { ⌜ Good (now t) shape × (j < stepsOf shape) × (r .step < 4294967295) × (time < 2147483648) ⌝ }
+    ensures { λ _. ⌜ now (store .exit) ≡ stepMove (now (t .entry)) shape time r j (now (store .entry)) ⌝ }
+{
+    one_step(
+        t,
+        store,
+        shape,
+        step_frame(t, shape, j),
+        since(time, r.birth),
+    );
+    put_running(store, r.stepped());
+}
+
+// The event of action j, if any, is fired.
+fn fire_event(t: &[u8], store: &mut [u32], shape: Shape, j: usize, birth: u32, time: u32)
+    requires { ⌜ Good (now t) shape × (j < actionsOf shape) ⌝ }
+    ensures { λ _. ⌜ now (store .exit) ≡ fireFound (now (t .entry)) shape (eventOf (now (t .entry)) shape j) birth time (now (store .entry)) ⌝ }
+{
+    let o = field(t, action_frame(t, shape, j), 3);
+    if o != NONE {
+        fire(t, store, shape, o, birth, time);
+    }
+}
+
+// The steps of action j are done: its event is fired, and the next action comes.
+pub fn end(t: &[u8], store: &mut [u32], shape: Shape, time: u32, r: Running, j: usize)
+    requires { ⌜ Good (now t) shape × (j < actionsOf shape) × (actionOf (now t) shape (stateOf (now store)) (r .action) ≡ one j) × (r .action < 4294967295) ⌝ }
+    ensures { λ _. ⌜ now (store .exit) ≡ endMove (now (t .entry)) shape time (stateOf (now (store .entry))) r j (now (store .entry)) ⌝ }
+{
+    let next = number_after(t, shape, state_of(store), j, r.action);
+    fire_event(t, store, shape, j, r.birth, time);
+    put_running(store, r.entered(next));
+}

@@ -1,0 +1,217 @@
+// Taking an event.
+ghost use mathlib.Core.Path.{_≡_};
+ghost use Prim.Native.Nat.{_+_, _<_, _≤_};
+ghost use lib.ListN.{length};
+ghost use Rattle.numbers.specs.Bounded.{Bounded};
+ghost use Rattle.rules_tables.specs.Kind.{interface, ofInput};
+ghost use Rattle.rules_tables.specs.Frame.{flagAt};
+ghost use Rattle.rules_tables.specs.Good.{Good};
+ghost use Rattle.rules_tables.specs.Ids.{inputs, variables, associations as «associationsOf»};
+ghost use Rattle.store_words.specs.Small.{Small};
+ghost use Rattle.rules_store.specs.Word.{value, putValue, buffer};
+ghost use Rattle.rules_moves.specs.Partner.{inputOwner, partnerOutput, partnerVariable};
+ghost use Rattle.rules_moves.specs.Carry.{voice, orNone, carriedBy};
+ghost use Rattle.moves_fire.specs.Carried.{Carried};
+ghost use Rattle.rules_moves.specs.Take.{sample as «sampleAt», samples, passTo, pass as «passAt», passes, fireFound, dtOf, startStop, wake as «wakeOf»};
+ghost use Rattle.rules_moves.specs.Record.{putOut};
+ghost use Rattle.moves_take.specs.Received.{Event, Received};
+
+pub mod record;
+
+use crate::record::write_record;
+use moves_fire::carry::speaks;
+use moves_fire::fire_carrying;
+use moves_fire::partner::partner_output;
+use moves_fire::partner::partner_variable;
+use numbers::word::ticks;
+use numbers_bits::mark;
+use rules_moves::Voice;
+use rules_store::Running;
+use rules_tables::Shape;
+use store_words::shape::association_frame;
+use store_words::shape::associations;
+use store_words::shape::variables as variables_of;
+use store_words::word::buffer_of;
+use store_words::word::put_due;
+use store_words::word::put_input;
+use store_words::word::put_owner;
+use store_words::word::put_running;
+use store_words::word::put_value;
+use store_words::word::value_of;
+use table_frames::frame::field;
+use table_frames::kind::BASIC;
+use table_frames::kind::DELAY;
+use table_frames::kind::INTERFACE;
+use table_frames::kind::NONE;
+use table_frames::kind::OF_INPUT;
+use table_frames::kind::SINK;
+use table_parts::ANY;
+use table_parts::Found;
+use table_parts::nth;
+use table_parts::rank;
+
+// Input variable v gets value from buffer; the answer is that value.
+pub fn sample(store: &mut [u32], shape: Shape, v: usize) -> u32
+    requires { ⌜ Small shape × (v < 65536) ⌝ }
+    ensures { λ r. ⌜ (r ≡ buffer shape (now (store .entry)) v) × (now (store .exit) ≡ putValue shape v r (now (store .entry))) ⌝ }
+{
+    let x = buffer_of(store, shape, v);
+    put_value(store, shape, v, x);
+    x
+}
+
+// Associated inputs get value from buffer.
+fn sample_all(t: &[u8], store: &mut [u32], shape: Shape, i: usize)
+    requires { ⌜ Good (now t) shape ⌝ }
+    ensures { λ _. ⌜ now (store .exit) ≡ samples (now (t .entry)) shape i (now (store .entry)) ⌝ }
+{
+    let n = associations(shape);
+    let w = Voice {
+        flag: OF_INPUT,
+        event: i,
+    };
+    let mut j = 0;
+    while j < n {
+        if speaks(t, shape, w, j) {
+            sample(store, shape, field(t, association_frame(t, shape, j), 1));
+        }
+        j += 1;
+    }
+}
+
+// x, the value of input variable v, goes to its partner; the answer is the partner, or none.
+fn pass(t: &[u8], store: &mut [u32], shape: Shape, v: usize, x: u32) -> usize
+    requires { ⌜ Good (now t) shape × (v < variables shape) × (x ≡ value shape (now store) v) ⌝ }
+    ensures { λ r. ⌜ (now (store .exit) ≡ passTo shape (partnerVariable (now (t .entry)) shape v) v (now (store .entry))) × (r ≡ orNone (partnerVariable (now (t .entry)) shape v)) ⌝ }
+{
+    let Found::One(u) = partner_variable(t, shape, v) else {
+        return NONE;
+    };
+    put_value(store, shape, u, x);
+    u
+}
+
+// Association j, if it is one of event input i: its input gets value from buffer and passes it to its partner.
+// The answer is the variable that it has the partner event carry, or none.
+fn pass_on(t: &[u8], store: &mut [u32], shape: Shape, i: usize, j: usize) -> usize
+    requires { ⌜ Good (now t) shape × (j < associationsOf shape) ⌝ }
+    ensures { λ r. ⌜ (now (store .exit) ≡ passAt (now (t .entry)) shape i j (sampleAt (now (t .entry)) shape i j (now (store .entry)))) × (r ≡ carriedBy (now (t .entry)) shape (voice ofInput i) j) ⌝ }
+{
+    let w = Voice {
+        flag: OF_INPUT,
+        event: i,
+    };
+    if !speaks(t, shape, w, j) {
+        return NONE;
+    }
+    let v = field(t, association_frame(t, shape, j), 1);
+    let x = sample(store, shape, v);
+    pass(t, store, shape, v, x)
+}
+
+// Associated inputs get value from buffer and pass it to their partners, all in one walk; the answer is the set of these partners,
+// which are what the partner event carries.
+fn pass_all(t: &[u8], store: &mut [u32], shape: Shape, i: usize) -> [u32; 16]
+    requires { ⌜ Good (now t) shape ⌝ }
+    ensures { λ r. ⌜ (now (store .exit) ≡ passes (now (t .entry)) shape i (samples (now (t .entry)) shape i (now (store .entry)))) × Carried (now (t .entry)) shape (voice ofInput i) r ⌝ }
+{
+    let n = associations(shape);
+    let mut m = [0u32; 16];
+    let mut j = 0;
+    while j < n {
+        let v = pass_on(t, store, shape, i, j);
+        if v < 512 {
+            mark(&mut m, v);
+        }
+        j += 1;
+    }
+    m
+}
+
+// Interface: values to the partners first, then the partner event is fired with the same birth. It speaks by event input i itself, so
+// it carries the variables that were passed to.
+fn relay(t: &[u8], store: &mut [u32], shape: Shape, i: usize, birth: u32, time: u32)
+    requires { ⌜ Good (now t) shape × (i < inputs shape) × (flagAt (now t) (inputOwner (now t) shape i) ≡ interface) ⌝ }
+    ensures { λ _. ⌜ now (store .exit) ≡ fireFound (now (t .entry)) shape (partnerOutput (now (t .entry)) shape i) birth time (passes (now (t .entry)) shape i (samples (now (t .entry)) shape i (now (store .entry)))) ⌝ }
+{
+    let m = pass_all(t, store, shape, i);
+    let Found::One(o) = partner_output(t, shape, i) else {
+        return;
+    };
+    fire_carrying(t, store, shape, o, &m, birth, time);
+}
+
+// DT: the delay's one variable, a negative one counts as 0.
+fn dt_of(t: &[u8], store: &[u32], shape: Shape, el: usize) -> u32
+    requires { ⌜ Good (now t) shape ⌝ }
+    ensures { λ r. ⌜ Bounded 2147483648 (dtOf (now (t .entry)) shape el (now (store .entry))) r ⌝ }
+{
+    let Found::One(v) = nth(t, shape.outputs_end, variables_of(shape), ANY, el, 0) else {
+        return 0;
+    };
+    ticks(value_of(store, shape, v))
+}
+
+// Delay: START, the first event input, sets due to now + DT, STOP clears it.
+fn start_stop(t: &[u8], store: &mut [u32], shape: Shape, el: usize, i: usize, time: u32)
+    requires { ⌜ Good (now t) shape × (i < inputs shape) × (el < 65536) × (time < 2147483648) ⌝ }
+    ensures { λ _. ⌜ now (store .exit) ≡ startStop (now (t .entry)) shape el i time (now (store .entry)) ⌝ }
+{
+    if rank(t, shape.elements_end, ANY, el, i) == 0 {
+        let dt = dt_of(t, store, shape, el);
+        put_due(store, el, 1, time + dt);
+        return;
+    }
+    put_due(store, el, 0, 0);
+}
+
+// Basic: mode 1, live.
+fn wake(store: &mut [u32], el: usize, i: usize, birth: u32)
+    requires { ⌜ (el < 65536) × (i < 65536) ⌝ }
+    ensures { λ _. ⌜ now (store .exit) ≡ wakeOf el i birth (now (store .entry)) ⌝ }
+{
+    put_owner(store, (el + 1) as u32, (i + 1) as u32);
+    put_running(store, Running::awake(birth));
+}
+
+// The event that waits at event input i stops waiting, its associated inputs get value from buffer, and it does its work at element el, by its sort.
+// What an event does is decided here alone. A sink's record goes to the output at `at`; the answer is the place after what is written.
+pub fn receive(
+    t: &[u8],
+    store: &mut [u32],
+    shape: Shape,
+    sort: usize,
+    el: usize,
+    i: usize,
+    birth: u32,
+    last: u32,
+    time: u32,
+    out: &mut [u8],
+    at: usize,
+) -> usize
+    requires { ⌜ Good (now t) shape × (i < inputs shape) × Event (now t) shape (now store) i sort el birth last × (time < 2147483648) × (at + length (putOut (now t) shape i birth time (now store)) ≤ length (now out)) ⌝ }
+    ensures { λ r. ⌜ Received (now (t .entry)) shape i time (now (store .entry)) (now (store .exit)) (now (out .entry)) (now (out .exit)) at r ⌝ }
+{
+    put_input(store, shape, i, 0, 0, 0);
+    match sort {
+        BASIC => {
+            sample_all(t, store, shape, i);
+            wake(store, el, i, birth);
+            at
+        }
+        INTERFACE => {
+            relay(t, store, shape, i, birth, time);
+            at
+        }
+        DELAY => {
+            sample_all(t, store, shape, i);
+            start_stop(t, store, shape, el, i, time);
+            at
+        }
+        SINK => write_record(t, store, shape, el, i, birth, last, time, out, at),
+        _ => {
+            sample_all(t, store, shape, i);
+            at
+        }
+    }
+}

@@ -1,9 +1,0 @@
-pub mod Bounded
-pub mod Word
-pub mod Clip
-pub mod Nearest
-pub mod Operation
-pub mod Guard
-pub mod Sets
-pub mod Bytes
-pub mod Cases

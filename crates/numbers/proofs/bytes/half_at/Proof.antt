@@ -1,0 +1,29 @@
+-- `number::bytes::half_at` meets its contract: the two bytes and their bounds are what `byte_at` gives.
+use Rattle.rules_numbers.specs.Bytes.{halfAt}
+use borrow.Author.Needs.{needs}
+use Rattle.numbers.proofs.bytes.half_at.Statement.{statement}
+use Rattle.numbers.proofs.bytes.half_at.Tie as tie
+
+byte-at-requires : tie.Need-byte-at-requires
+byte-at-requires c κs = search needs
+
+mul-result : tie.Need-mul-result
+mul-result c = search needs
+
+add-byte-at : tie.Need-add-byte-at
+add-byte-at c = search needs
+
+byte-at-requires-2 : tie.Need-byte-at-requires-2
+byte-at-requires-2 c κs = search needs
+
+add-result : tie.Need-add-result
+add-result c = search needs
+
+returns : tie.Need-returns
+unfolding halfAt
+returns c = search needs
+
+pub half-at-spec : {M : Type 1} → statement M
+half-at-spec =
+    tie.close
+    (tie.spec byte-at-requires mul-result add-byte-at byte-at-requires-2 add-result returns)

@@ -1,4 +1,0 @@
-pub mod Part
-pub mod Writer
-pub mod Own
-pub mod Lawful

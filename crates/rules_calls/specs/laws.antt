@@ -1,0 +1,7 @@
+pub mod Agreed
+pub mod Calls
+pub mod Checked
+pub mod Compact
+pub mod Examples
+pub mod Public
+pub mod Run

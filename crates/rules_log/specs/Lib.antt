@@ -1,0 +1,4 @@
+pub mod Log
+pub mod Origin
+pub mod Sequence
+pub mod laws

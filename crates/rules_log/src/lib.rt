@@ -1,0 +1,1 @@
+// What happens in a sequence of calls: definitions only.

@@ -1,0 +1,17 @@
+pub mod Act
+pub mod Associated
+pub mod Carry
+pub mod Chart
+pub mod Connected
+pub mod Fire
+pub mod Least
+pub mod Means
+pub mod Next
+pub mod Order
+pub mod Partner
+pub mod Reached
+pub mod Ready
+pub mod Record
+pub mod Take
+pub mod Untouched
+pub mod laws

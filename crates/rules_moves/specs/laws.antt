@@ -1,0 +1,12 @@
+pub mod Carry
+pub mod Examples
+pub mod Firing
+pub mod Least
+pub mod Leastness
+pub mod Moving
+pub mod Next
+pub mod Partner
+pub mod Record
+pub mod Sizes
+pub mod Taking
+pub mod Untouched

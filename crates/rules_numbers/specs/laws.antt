@@ -1,0 +1,6 @@
+pub mod Bytes
+pub mod Examples
+pub mod Nearest
+pub mod Operation
+pub mod Sets
+pub mod Word

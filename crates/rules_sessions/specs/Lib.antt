@@ -1,0 +1,11 @@
+pub mod AnswerLine
+pub mod Command
+pub mod Fits
+pub mod Line
+pub mod Reading
+pub mod RecordLines
+pub mod RunLines
+pub mod RunText
+pub mod Session
+pub mod Text
+pub mod laws

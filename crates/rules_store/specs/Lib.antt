@@ -1,0 +1,11 @@
+pub mod Blank
+pub mod Formed
+pub mod Kept
+pub mod Layout
+pub mod Load
+pub mod Own
+pub mod Part
+pub mod Running
+pub mod WellFormed
+pub mod Word
+pub mod laws

@@ -1,0 +1,87 @@
+-- The parts of a store, and what a change of it leaves. Laws above this crate speak of parts and never of places.
+use mathlib.Core.Path.{_≡_}
+use mathlib.Core.List.{List}
+use mathlib.Core.Bool.{Bool, true, false}
+use Prim.Native.Nat.{ℕ, _≤_, _<_}
+use lib.Dec.{eqb}
+use lib.ListN.{length, getD}
+use Rattle.rules_walks.specs.Pick.{either}
+use Rattle.rules_tables.specs.Frame.{flagAt}
+use Rattle.rules_tables.specs.declared.Shape.{Shape}
+use Rattle.rules_tables.specs.Ids.{elements, inputs, variables, variableFrame}
+use Rattle.rules_store.specs.Layout.{need}
+use Rattle.rules_store.specs.Word.{nowOf, runningElement, currentEvent, runningOf, overwritten, spares, spareWord, chartState, dueFlag, dueTime, waiting, birthOf, lastUpdate, value, buffer}
+
+-- now; the running block with its element and event; the overwritten count; the chart states; the due flags and times; the event inputs; the values of input
+-- variables; the values of output and internal variables; the buffers. Every word of the need is of one part, but for the spare ones
+pub data Part : Type 0 where
+  time : Part
+  block : Part
+  count : Part
+  chart : Part
+  due : Part
+  input : Part
+  sampled : Part
+  computed : Part
+  buffered : Part
+
+-- ---- sets of parts
+abbrev code : Part → ℕ
+code time = 0
+code block = 1
+code count = 2
+code chart = 3
+code due = 4
+code input = 5
+code sampled = 6
+code computed = 7
+code buffered = 8
+
+-- this part alone
+abbrev pub just : Part → Part → Bool
+just a p = eqb (code a) (code p)
+
+-- one part more
+abbrev pub also : Part → (Part → Bool) → Part → Bool
+also a f p = either (just a p) (f p)
+
+abbrev pub everything : Part → Bool
+everything p = true
+
+abbrev pub nothing : Part → Bool
+nothing p = false
+
+-- ---- stores that agree in a part
+pub record SameBlock (s s′ : List ℕ) : Type 0 where
+  pub element : runningElement s′ ≡ runningElement s
+  pub event : currentEvent s′ ≡ currentEvent s
+  pub running : runningOf s′ ≡ runningOf s
+
+pub record SameDue (s s′ : List ℕ) (el : ℕ) : Type 0 where
+  pub flag : dueFlag s′ el ≡ dueFlag s el
+  pub at : dueTime s′ el ≡ dueTime s el
+
+pub record SameInput (S : Shape) (s s′ : List ℕ) (i : ℕ) : Type 0 where
+  pub waits : waiting S s′ i ≡ waiting S s i
+  pub born : birthOf S s′ i ≡ birthOf S s i
+  pub last : lastUpdate S s′ i ≡ lastUpdate S s i
+
+-- s′ is s but for the parts that are touched; the spare words and those past the need are never touched
+pub record Leaves (T : List ℕ) (S : Shape) (touched : Part → Bool) (s s′ : List ℕ) : Type 0 where
+  pub long : length s′ ≡ length s
+  pub past : (p : ℕ) → need S ≤ p → getD s′ p 0 ≡ getD s p 0
+  pub spare : (j : ℕ) → j < spares → spareWord s′ j ≡ spareWord s j
+  pub now : touched time ≡ false → nowOf s′ ≡ nowOf s
+  pub running : touched block ≡ false → SameBlock s s′
+  pub counted : touched count ≡ false → overwritten s′ ≡ overwritten s
+  pub charts : touched chart ≡ false → (el : ℕ) → el < elements S → chartState s′ el ≡ chartState s el
+  pub dues : touched due ≡ false → (el : ℕ) → el < elements S → SameDue s s′ el
+  pub waits : touched input ≡ false → (i : ℕ) → i < inputs S → SameInput S s s′ i
+  pub values : touched sampled ≡ false → (v : ℕ) → v < variables S → flagAt T (variableFrame S v) ≡ 0 → value S s′ v ≡ value S s v
+  pub results : touched computed ≡ false → (v : ℕ) → v < variables S → (flagAt T (variableFrame S v) ≡ 0 → ⊥) → value S s′ v ≡ value S s v
+  pub buffers : touched buffered ≡ false → (v : ℕ) → v < variables S → buffer S s′ v ≡ buffer S s v
+
+-- ---- a stretch of places: s′ is s but for the words from lo up to hi
+pub record Outside (lo hi : ℕ) (s s′ : List ℕ) : Type 0 where
+  pub long : length s′ ≡ length s
+  pub apart : (p : ℕ) → (lo ≤ p → p < hi → ⊥) → getD s′ p 0 ≡ getD s p 0

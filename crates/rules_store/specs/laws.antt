@@ -1,0 +1,9 @@
+pub mod Blank
+pub mod Examples
+pub mod Kept
+pub mod Load
+pub mod Own
+pub mod Part
+pub mod WellFormed
+pub mod Word
+pub mod Writer

@@ -1,0 +1,12 @@
+pub mod Accepted
+pub mod Actions
+pub mod Examples
+pub mod Formed
+pub mod Good
+pub mod Judge
+pub mod Lawful
+pub mod Owned
+pub mod Places
+pub mod Referring
+pub mod Ruled
+pub mod View

@@ -1,0 +1,1 @@
+// Definitions and laws only: choices, walks, searches and counts over numbers.

@@ -1,0 +1,3 @@
+mod Buffers
+mod Telling
+mod Taking

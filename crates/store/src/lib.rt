@@ -1,4 +1,0 @@
-// The store's words by name: one reader and one writer each. No other crate knows a place in the store.
-pub mod running;
-pub mod shape;
-pub mod word;

@@ -1,0 +1,254 @@
+// The words of the store by name. A place past the store's end reads 0 and is not written, so that no place has to be looked at twice.
+ghost use mathlib.Core.Path.{_≡_};
+ghost use Prim.Native.Nat.{_+_, _*_, _<_};
+ghost use lib.ListN.{getD, set};
+ghost use Rattle.numbers.specs.Bounded.{Bounded};
+ghost use Rattle.rules_store.specs.Layout.{elementAt, inputAt, variableAt};
+ghost use Rattle.store_words.specs.Small.{Small};
+ghost use Rattle.rules_store.specs.Word.{spares, nowOf, putNow, runningElement, currentEvent, putOwner, runningOf, putRunning, overwritten, putOverwritten, spareWord, chartState, putChartState, dueFlag, dueTime, putDue, waiting, birthOf, lastUpdate, putInput, value, putValue, buffer, putBuffer};
+use crate::shape::inputs;
+use rules_store::Running;
+use rules_tables::Shape;
+
+// The largest time.
+pub const LARGEST_TIME: u32 = 2147483647;
+
+// The largest due time.
+pub const LARGEST_DUE: u32 = 4294967294;
+
+// Where the overwritten count stops.
+pub const COUNT_END: u32 = 4294967295;
+
+fn word(store: &[u32], k: usize) -> u32
+    ensures { λ r. ⌜ r ≡ getD (now (store .entry)) k 0 ⌝ }
+{
+    if k < store.len() { store[k] } else { 0 }
+}
+
+fn put(store: &mut [u32], k: usize, x: u32)
+    ensures { λ _. ⌜ now (store .exit) ≡ set (now (store .entry)) k x ⌝ }
+{
+    if k < store.len() {
+        store[k] = x;
+    }
+}
+
+// Now.
+pub fn time(store: &[u32]) -> u32
+    ensures { λ r. ⌜ r ≡ nowOf (now (store .entry)) ⌝ }
+{
+    word(store, 0)
+}
+
+// Sets now.
+pub fn put_time(store: &mut [u32], x: u32)
+    ensures { λ _. ⌜ now (store .exit) ≡ putNow x (now (store .entry)) ⌝ }
+{
+    put(store, 0, x);
+}
+
+// The running element plus 1, or 0.
+pub fn running_element(store: &[u32]) -> u32
+    ensures { λ r. ⌜ r ≡ runningElement (now (store .entry)) ⌝ }
+{
+    word(store, 1)
+}
+
+// The current event plus 1, or 0.
+pub fn current_event(store: &[u32]) -> u32
+    ensures { λ r. ⌜ r ≡ currentEvent (now (store .entry)) ⌝ }
+{
+    word(store, 2)
+}
+
+// Sets both.
+pub fn put_owner(store: &mut [u32], el: u32, ev: u32)
+    ensures { λ _. ⌜ now (store .exit) ≡ putOwner el ev (now (store .entry)) ⌝ }
+{
+    put(store, 1, el);
+    put(store, 2, ev);
+}
+
+// The running block.
+pub fn running(store: &[u32]) -> Running
+    ensures { λ r. ⌜ r ≡ runningOf (now (store .entry)) ⌝ }
+{
+    Running {
+        birth: word(store, 3),
+        mode: word(store, 4),
+        live: word(store, 5),
+        action: word(store, 6),
+        step: word(store, 7),
+    }
+}
+
+// Sets it.
+pub fn put_running(store: &mut [u32], r: Running)
+    ensures { λ _. ⌜ now (store .exit) ≡ putRunning r (now (store .entry)) ⌝ }
+{
+    put(store, 3, r.birth);
+    put(store, 4, r.mode);
+    put(store, 5, r.live);
+    put(store, 6, r.action);
+    put(store, 7, r.step);
+}
+
+// The overwritten count.
+pub fn overwritten_count(store: &[u32]) -> u32
+    ensures { λ r. ⌜ r ≡ overwritten (now (store .entry)) ⌝ }
+{
+    word(store, 8)
+}
+
+// Sets it.
+pub fn put_overwritten(store: &mut [u32], x: u32)
+    ensures { λ _. ⌜ now (store .exit) ≡ putOverwritten x (now (store .entry)) ⌝ }
+{
+    put(store, 8, x);
+}
+
+// The words that are zero, 9 to 15.
+const FIRST_SPARE: usize = 9;
+
+pub const SPARES: usize = 7;
+
+// Word j of them.
+pub fn spare(store: &[u32], j: usize) -> u32
+    requires { ⌜ j < spares ⌝ }
+    ensures { λ r. ⌜ r ≡ spareWord (now (store .entry)) j ⌝ }
+{
+    word(store, FIRST_SPARE + j)
+}
+
+// Where the words of element el start.
+fn element_at(el: usize) -> usize
+    requires { ⌜ el < 4294967296 ⌝ }
+    ensures { λ r. ⌜ Bounded 12884901904 (elementAt el) r ⌝ }
+{
+    16 + 3 * el
+}
+
+// Where the words of event input i start.
+fn input_at(shape: Shape, i: usize) -> usize
+    requires { ⌜ Small shape × (i < 65536) ⌝ }
+    ensures { λ r. ⌜ Bounded 1000000 (inputAt shape i) r ⌝ }
+{
+    16 + 3 * shape.elements_end + 3 * i
+}
+
+// Where the words of variable v start.
+fn variable_at(shape: Shape, v: usize) -> usize
+    requires { ⌜ Small shape × (v < 65536) ⌝ }
+    ensures { λ r. ⌜ Bounded 1000000 (variableAt shape v) r ⌝ }
+{
+    16 + 3 * shape.elements_end + 3 * inputs(shape) + 2 * v
+}
+
+// The chart state of element el.
+pub fn chart_state(store: &[u32], el: usize) -> u32
+    requires { ⌜ el < 4294967296 ⌝ }
+    ensures { λ r. ⌜ r ≡ chartState (now (store .entry)) el ⌝ }
+{
+    word(store, element_at(el))
+}
+
+// Sets it.
+pub fn put_chart_state(store: &mut [u32], el: usize, q: u32)
+    requires { ⌜ el < 4294967296 ⌝ }
+    ensures { λ _. ⌜ now (store .exit) ≡ putChartState el q (now (store .entry)) ⌝ }
+{
+    put(store, element_at(el), q);
+}
+
+// The due flag of element el.
+pub fn due_flag(store: &[u32], el: usize) -> u32
+    requires { ⌜ el < 4294967296 ⌝ }
+    ensures { λ r. ⌜ r ≡ dueFlag (now (store .entry)) el ⌝ }
+{
+    word(store, element_at(el) + 1)
+}
+
+// Its due time.
+pub fn due_time(store: &[u32], el: usize) -> u32
+    requires { ⌜ el < 4294967296 ⌝ }
+    ensures { λ r. ⌜ r ≡ dueTime (now (store .entry)) el ⌝ }
+{
+    word(store, element_at(el) + 2)
+}
+
+// Sets both.
+pub fn put_due(store: &mut [u32], el: usize, flag: u32, time: u32)
+    requires { ⌜ el < 4294967296 ⌝ }
+    ensures { λ _. ⌜ now (store .exit) ≡ putDue el flag time (now (store .entry)) ⌝ }
+{
+    let at = element_at(el);
+    put(store, at + 1, flag);
+    put(store, at + 2, time);
+}
+
+// The waiting flag of event input i.
+pub fn waiting_flag(store: &[u32], shape: Shape, i: usize) -> u32
+    requires { ⌜ Small shape × (i < 65536) ⌝ }
+    ensures { λ r. ⌜ r ≡ waiting shape (now (store .entry)) i ⌝ }
+{
+    word(store, input_at(shape, i))
+}
+
+// Its birth.
+pub fn birth(store: &[u32], shape: Shape, i: usize) -> u32
+    requires { ⌜ Small shape × (i < 65536) ⌝ }
+    ensures { λ r. ⌜ r ≡ birthOf shape (now (store .entry)) i ⌝ }
+{
+    word(store, input_at(shape, i) + 1)
+}
+
+// Its last update.
+pub fn last_update(store: &[u32], shape: Shape, i: usize) -> u32
+    requires { ⌜ Small shape × (i < 65536) ⌝ }
+    ensures { λ r. ⌜ r ≡ lastUpdate shape (now (store .entry)) i ⌝ }
+{
+    word(store, input_at(shape, i) + 2)
+}
+
+// Sets all three.
+pub fn put_input(store: &mut [u32], shape: Shape, i: usize, flag: u32, birth: u32, last: u32)
+    requires { ⌜ Small shape × (i < 65536) ⌝ }
+    ensures { λ _. ⌜ now (store .exit) ≡ putInput shape i flag birth last (now (store .entry)) ⌝ }
+{
+    let at = input_at(shape, i);
+    put(store, at, flag);
+    put(store, at + 1, birth);
+    put(store, at + 2, last);
+}
+
+// The value of variable v.
+pub fn value_of(store: &[u32], shape: Shape, v: usize) -> u32
+    requires { ⌜ Small shape × (v < 65536) ⌝ }
+    ensures { λ r. ⌜ r ≡ value shape (now (store .entry)) v ⌝ }
+{
+    word(store, variable_at(shape, v))
+}
+
+// Sets it.
+pub fn put_value(store: &mut [u32], shape: Shape, v: usize, x: u32)
+    requires { ⌜ Small shape × (v < 65536) ⌝ }
+    ensures { λ _. ⌜ now (store .exit) ≡ putValue shape v x (now (store .entry)) ⌝ }
+{
+    put(store, variable_at(shape, v), x);
+}
+
+// Its buffer.
+pub fn buffer_of(store: &[u32], shape: Shape, v: usize) -> u32
+    requires { ⌜ Small shape × (v < 65536) ⌝ }
+    ensures { λ r. ⌜ r ≡ buffer shape (now (store .entry)) v ⌝ }
+{
+    word(store, variable_at(shape, v) + 1)
+}
+
+// Sets it.
+pub fn put_buffer(store: &mut [u32], shape: Shape, v: usize, x: u32)
+    requires { ⌜ Small shape × (v < 65536) ⌝ }
+    ensures { λ _. ⌜ now (store .exit) ≡ putBuffer shape v x (now (store .entry)) ⌝ }
+{
+    put(store, variable_at(shape, v) + 1, x);
+}

@@ -1,0 +1,24 @@
+-- The definition at both outcomes of the test; the variable whose flag is read exists.
+use borrow.Author.Needs.{needs}
+use Rattle.table_references.proofs.variable_with.Statement.{statement}
+use Rattle.rules_tables.specs.Reference.{variableWith}
+use borrow.Author.Tests.{ltb-true}
+use mathlib.Core.Path.{sym, _∙_}
+use Rattle.table_references.proofs.variable_with.Tie as tie
+
+exists-requires : tie.Need-exists-requires
+exists-requires c κs = search needs
+
+flag-of-requires : tie.Need-flag-of-requires
+flag-of-requires c κs = (c .before .before .before .pre .0, search needs, ltb-true _ _ (sym (c .before .exists .ensures) ∙ c .if1 .taken), search needs)
+
+returns : tie.Need-returns
+unfolding variableWith
+returns c = rw (← c .before .before .exists .ensures, c .before .if1 .taken, ← c .flag-of .ensures)
+
+returns-2 : tie.Need-returns-2
+unfolding variableWith
+returns-2 c = rw (← c .before .exists .ensures, c .if1 .left)
+
+pub variable-with-spec : {M : Type 1} → statement M
+variable-with-spec = tie.close (tie.spec exists-requires flag-of-requires returns returns-2)

@@ -1,4 +1,0 @@
-pub mod Calls
-pub mod Exports
-pub mod Bounds
-pub mod Agreed
