@@ -30,7 +30,7 @@ use Rattle.rules_calls.specs.Public.{runAnswer, LoadCall, AdvanceCall, ArrivalC
 use Rattle.rules_calls.specs.Refusals.{loadRefusal, storeRefusal, orElse, timeRefusal, advanceRefusal, eventRefusal, arrivalRefusal}
 use Rattle.rules_calls.specs.laws.Checked.{faulty, verdict, shape}
 use Rattle.rules_calls.specs.laws.Public.{load-call, advance-call, arrival-call, run-call}
-use Rattle.calls_run.specs.Done.{Done as «RunDone»}
+use Rattle.calls_run.specs.RunMade.{RunMade}
 
 -- ---- by the verdict and the call's own refusal
 module _ (v : Verdict) (q : ℕ) where
@@ -191,10 +191,10 @@ module _ (T s : List ℕ) (budget : ℕ) (out : List ℕ) {j : Judged} (told : j
         (rw asked (kept-stop (judge T) q s store-would (verdict T told sound) n))
         (rw asked (kept-stop (judge T) q out out-would (verdict T told sound) n))
 
-    pub run-done : {time : ℕ} (x : Ran) (s′ out′ : List ℕ) → q ≡ 0 → time ≡ nowOf s → «RunDone» T S time budget s out x s′ out′
+    pub run-done : {time : ℕ} (x : Ran) (s′ out′ : List ℕ) → q ≡ 0 → time ≡ nowOf s → RunMade T S time budget s out x s′ out′
         → RunCall T s budget out («RanTo» (x .moves) (x .bytes) (x .stop)) s′ out′
     run-done x s′ out′ z t d =
-        let w : «RunDone» T (shapeOf T) (nowOf s) budget s out x s′ out′ = rw (shape T told sound, t) at d in
+        let w : RunMade T (shapeOf T) (nowOf s) budget s out x s′ out′ = rw (shape T told sound, t) at d in
         let e : «RanTo» (x .moves) (x .bytes) (x .stop) ≡ would = rw (← w .moves-made, ← w .bytes-written, ← w .stopped) in
         run-call T s budget out (e ∙ answer-pass (judge T) (storeRefusal T (shapeOf T) s) would (verdict T told sound) (asked ∙ z))
         (kept-pass (judge T) (storeRefusal T (shapeOf T) s) s store-would (verdict T told sound) (asked ∙ z) (rw (← w .moves-made) (w .store-after)))

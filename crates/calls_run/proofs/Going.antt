@@ -23,7 +23,7 @@ use Rattle.rules_moves.specs.declared.Next.{Next}
 use Rattle.rules_moves.specs.Next.{nextBy, nextOf, moves, move, written, writtenBy, sizeBy}
 use Rattle.moves_next.specs.Made.{Made}
 use Rattle.rules_calls.specs.Run.{after, bytes, another, roomFor, continues, made, stopAfter}
-use Rattle.calls_run.specs.Done.{asked, Done}
+use Rattle.calls_run.specs.RunMade.{asked, RunMade}
 
 pub record Going (T : List ℕ) (S : Shape) (time budget : ℕ) (s₀ out₀ s out : List ℕ) (n at : ℕ) : Type 0 where
   pub within : n ≤ budget
@@ -122,7 +122,7 @@ module _ (T : List ℕ) (S : Shape) (time budget : ℕ) (s₀ out₀ : List ℕ)
           }
 
     -- the run stops
-    pub going-done : {stop : ℕ} → stop ≡ asked next z at (length out) n budget → (stop ≡ 0 → ⊥) → Done T S time budget s₀ out₀ (record { moves = n; bytes = at; stop = stop }) s out
+    pub going-done : {stop : ℕ} → stop ≡ asked next z at (length out) n budget → (stop ≡ 0 → ⊥) → RunMade T S time budget s₀ out₀ (record { moves = n; bytes = at; stop = stop }) s out
     unfolding asked continues made stopAfter
     going-done {stop} e ne =
         let c = stops (moves next) (leb (at + z) (length out)) (ltb n budget) (λ h. ne (e ∙ h)) in

@@ -5,7 +5,7 @@ ghost use Rattle.rules_tables.specs.Good.{Good};
 ghost use mathlib.Core.Bool.{not};
 ghost use Rattle.rules_moves.specs.Ready.{Ready};
 ghost use Rattle.rules_moves.specs.Next.{moves, sizeBy};
-ghost use Rattle.calls_run.specs.Done.{asked as «askedOf», Done};
+ghost use Rattle.calls_run.specs.RunMade.{asked as «askedOf», RunMade};
 use moves_next::fits;
 use moves_next::make;
 use moves_next::next_move;
@@ -69,7 +69,7 @@ pub fn run_moves(
     out: &mut [u8],
 ) -> Ran
     requires { ⌜ Good (now t) shape × (time < 2147483648) ⌝ }
-    ensures { λ r. ⌜ Done (now (t .entry)) shape time budget (now (store .entry)) (now (out .entry)) r (now (store .exit)) (now (out .exit)) ⌝ }
+    ensures { λ r. ⌜ RunMade (now (t .entry)) shape time budget (now (store .entry)) (now (out .entry)) r (now (store .exit)) (now (out .exit)) ⌝ }
 {
     let mut n: u32 = 0;
     let mut at: usize = 0;

@@ -74,10 +74,10 @@ abbrev pub judged : Table → Judged
 judged T = answer (judge T) (shapeOf T)
 
 -- document 01's number and frame for each case of the answer
-abbrev pub numberOf : Judged → ℕ
-numberOf (Sound s) = 0
-numberOf (Refused q f) = q
+abbrev pub refusalNumber : Judged → ℕ
+refusalNumber (Sound s) = 0
+refusalNumber (Refused q f) = q
 
-abbrev pub frameOf : Judged → ℕ
-frameOf (Sound s) = 0
-frameOf (Refused q f) = f
+abbrev pub faultyFrame : Judged → ℕ
+faultyFrame (Sound s) = 0
+faultyFrame (Refused q f) = f

@@ -3,7 +3,7 @@ ghost use mathlib.Core.Path.{_≡_};
 ghost use Prim.Native.Nat.{_≤_};
 ghost use Rattle.rules_tables.specs.Frame.{framesOf};
 ghost use Rattle.rules_tables.specs.Place.{Starts};
-ghost use Rattle.rules_tables.specs.Judge.{judge, judged, scanTo, answer, shapeOf, lengthOk, number, frame, numberOf, frameOf};
+ghost use Rattle.rules_tables.specs.Judge.{judge, judged, scanTo, answer, shapeOf, lengthOk, number, frame, refusalNumber, faultyFrame};
 use rules_tables::Judged;
 use rules_tables::Shape;
 use table_frames::form::form_end;
@@ -14,7 +14,7 @@ use table_references::references_end;
 
 // The answer is the verdict of document 01 on the table, and of an accepted table its shape.
 pub fn check(t: &[u8]) -> Judged
-    ensures { λ r. ⌜ (r ≡ judged (now (t .entry))) × (numberOf r ≡ number (judge (now (t .entry)))) × (frameOf r ≡ frame (judge (now (t .entry)))) ⌝ }
+    ensures { λ r. ⌜ (r ≡ judged (now (t .entry))) × (refusalNumber r ≡ number (judge (now (t .entry)))) × (faultyFrame r ≡ frame (judge (now (t .entry)))) ⌝ }
 {
     if length_ok(t) {
         scan(t)

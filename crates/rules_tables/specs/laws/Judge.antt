@@ -18,7 +18,7 @@ use Rattle.rules_tables.specs.Reference.{refersOk}
 use Rattle.rules_tables.specs.Network.{rulesOk}
 use Rattle.rules_tables.specs.declared.Shape.{Shape}
 use Rattle.rules_tables.specs.declared.Judged.the-variants.{Sound, Refused}
-use Rattle.rules_tables.specs.Judge.{Verdict, accepted, refused, next, faultAt, scanTo, lengthOk, judge, answer, judged, shapeOf, number, frame, numberOf, frameOf}
+use Rattle.rules_tables.specs.Judge.{Verdict, accepted, refused, next, faultAt, scanTo, lengthOk, judge, answer, judged, shapeOf, number, frame, refusalNumber, faultyFrame}
 
 next-fault : (q f : ℕ) → (q ≡ 0 → ⊥) → next accepted q f ≡ refused q f
 next-fault zero f h = absurd (h refl)
@@ -101,7 +101,7 @@ module _ (T : List ℕ) where
     passed-all e g h = scan-clean n (λ f l. clean f (omega arith))
 
   -- ---- what the answer tells
-  pub numbers : (v : Verdict) → (numberOf (answer v (shapeOf T)) ≡ number v) × (frameOf (answer v (shapeOf T)) ≡ frame v)
+  pub numbers : (v : Verdict) → (refusalNumber (answer v (shapeOf T)) ≡ number v) × (faultyFrame (answer v (shapeOf T)) ≡ frame v)
   numbers accepted = (refl, refl)
   numbers (refused q f) = (refl, refl)
 

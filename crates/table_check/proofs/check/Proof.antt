@@ -2,7 +2,7 @@
 use borrow.Author.Needs.{needs}
 use Rattle.table_check.proofs.check.Statement.{statement}
 use Rattle.rules_tables.specs.Frame.{framesOf}
-use Rattle.rules_tables.specs.Judge.{judge, scanTo, numberOf, frameOf}
+use Rattle.rules_tables.specs.Judge.{judge, scanTo, refusalNumber, faultyFrame}
 use Rattle.rules_tables.specs.laws.Judge.{numbers, length-few}
 use denote.Ref.{now}
 use mathlib.Core.Path.{refl, sym, ap, _∙_}
@@ -19,7 +19,7 @@ unfolding judge
 returns c =
     let T = now (c .before .before .before .before .args .t) in
     let n = numbers T (scanTo T (framesOf T)) in
-    rw (← c .before .before .length-ok .ensures, c .before .if1 .taken) (c .scan .ensures, ap numberOf (c .scan .ensures) ∙ n .0, ap frameOf (c .scan .ensures) ∙ n .1)
+    rw (← c .before .before .length-ok .ensures, c .before .if1 .taken) (c .scan .ensures, ap refusalNumber (c .scan .ensures) ∙ n .0, ap faultyFrame (c .scan .ensures) ∙ n .1)
 
 returns-2 : tie.Need-returns-2
 unfolding judge

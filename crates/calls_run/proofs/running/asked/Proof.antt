@@ -5,7 +5,7 @@ use denote.Ref.{now}
 use borrow.Author.Tests.{lt-ltb, le-ltb, not-true, not-false}
 use Rattle.rules_walks.specs.laws.Pick.{not-back}
 use Rattle.rules_moves.specs.Next.{moves, sizeBy}
-use Rattle.calls_run.specs.Done.{asked}
+use Rattle.calls_run.specs.RunMade.{asked}
 use Rattle.calls_run.proofs.Going.{left-room}
 use Rattle.calls_run.proofs.running.asked.Statement.{statement}
 use Rattle.calls_run.proofs.running.asked.Tie as tie

@@ -17,7 +17,7 @@ unfoldable pub asked : Next → ℕ → ℕ → ℕ → ℕ → ℕ → ℕ
 asked next z at room n budget = pick (moves next) (pick (leb (at + z) room) (pick (ltb n budget) 0 2) 3) 1
 
 -- what a run leaves: "It tells the moves made, the bytes written and that number. The rest of the buffer is unchanged."
-pub record Done (T : List ℕ) (S : Shape) (time budget : ℕ) (s out : List ℕ) (r : Ran) (s′ out′ : List ℕ) : Type 0 where
+pub record RunMade (T : List ℕ) (S : Shape) (time budget : ℕ) (s out : List ℕ) (r : Ran) (s′ out′ : List ℕ) : Type 0 where
   pub moves-made : r .moves ≡ made T S time budget (length out) s
   pub store-after : s′ ≡ after T S time (r .moves) s
   pub out-after : out′ ≡ sets out 0 (bytes T S time (r .moves) s)
