@@ -10,6 +10,9 @@ use Rattle.rules_walks.specs.Count.{countIf}
 use Rattle.rules_walks.specs.First.{firstFrom}
 use Rattle.rules_walks.specs.Walk.{upTo}
 use Rattle.rules_numbers.specs.Bytes.{halfAt, halfBytes, wordBytes}
+use Rattle.rules_numbers.specs.Clip.{clip}
+use Rattle.rules_numbers.specs.Guard.{guarded}
+use Rattle.rules_numbers.specs.Operation.{operation}
 use Rattle.rules_tables.specs.declared.Shape.{Shape}
 use Rattle.rules_tables.specs.Kind.{ofOutput}
 use Rattle.rules_tables.specs.Frame.{flagAt, fieldAt}
@@ -20,9 +23,9 @@ use Rattle.rules_store.specs.Layout.{elementAt, inputAt, variableAt}
 use Rattle.rules_store.specs.Word.{putOwner, runningOf, putRunning, overwritten, putOverwritten, putDue, waiting, lastUpdate, putInput, value, putValue, buffer}
 use Rattle.rules_moves.specs.declared.Key.{Key}
 use Rattle.rules_moves.specs.declared.Next.the-variants.{Idle, Back}
-use Rattle.rules_moves.specs.Act.{eventOf, endMove}
+use Rattle.rules_moves.specs.Act.{oneStep, eventOf, endMove}
 use Rattle.rules_moves.specs.Carry.{voice, speaks, carriedBy, carries}
-use Rattle.rules_moves.specs.Chart.{heard, goIdle}
+use Rattle.rules_moves.specs.Chart.{heard, guardHolds, goIdle}
 use Rattle.rules_moves.specs.Fire.{counted, mark, connect, fire}
 use Rattle.rules_moves.specs.Least.{beats}
 use Rattle.rules_moves.specs.Next.{moveBy}
@@ -129,6 +132,22 @@ sink-record = refl
 pub sink-takes : at (19 ∷ 20 ∷ 21 ∷ 22 ∷ 23 ∷ []) (sampled sinking (frames 1 1 0 1 1 0 0) 0 waits) ≡ 0 ∷ 0 ∷ 0 ∷ 42 ∷ 42 ∷ []
 unfolding sampled sample speaks upTo choose putInput putValue buffer inputAt variableAt inputs associations flagAt fieldAt halfAt
 sink-takes = refl
+
+-- ---- "3 d is below e": a transition whose d is variable 1 and whose e is variable 0
+abbrev guarding : List ℕ
+guarding = frame 4 0 0 0 0 0 ++ frame 4 0 0 0 0 0 ++ frame 7 3 0 0 0 1
+
+abbrev holding : ℕ → ℕ → List ℕ
+holding e d = replicate 16 0 ++ (e ∷ 0 ∷ d ∷ 0 ∷ [])
+
+pub guard-order : map (λ (s : List ℕ). guardHolds guarding (frames 0 0 0 2 0 0 0) s 0) (holding 7 3 ∷ holding 3 7 ∷ []) ≡ true ∷ false ∷ []
+unfolding guardHolds guarded value variableAt inputs variables flagAt fieldAt halfAt
+guard-order = refl
+
+-- ---- "2 subtract c from b": the result is variable 0, b is variable 1 of value 9, c variable 2 of value 4
+pub step-order : at (16 ∷ []) (oneStep (frame 9 2 0 1 2 0) (frames 0 0 0 3 0 0 0) 0 0 (replicate 18 0 ++ (9 ∷ 0 ∷ 4 ∷ 0 ∷ []))) ≡ 5 ∷ []
+unfolding oneStep operation clip choose putValue value variableAt inputs variables flagAt fieldAt halfAt
+step-order = refl
 
 -- ---- "Delay: START sets due to now + DT (a negative DT counts as 0), STOP clears it.": DT is 50, at 9
 abbrev delaying : List ℕ
