@@ -8,11 +8,11 @@
  *
  * Every call is proved to do what the rules (docs/RULES.md) say, for every table, store, time and value list, and to read and write
  * nothing but what it is lent. None can be called at a wrong moment: what a call cannot do it refuses, by a number, and a refused
- * call leaves the store and the output buffer exactly as they came.
+ * call leaves the store, the output buffer and the trace room exactly as they came.
  *
  * What the caller must keep to, since C cannot check it:
  *   - each pointer is valid for the length that follows it, aligned for its type, and not null, also where the length is 0;
- *   - lengths count elements: bytes of a table and of an output buffer, 32-bit words of a store, values of an arrival;
+ *   - lengths count elements: bytes of a table, an output buffer, a trace room and a text, 32-bit words of a store, values of an arrival;
  *   - what is lent to one call does not overlap, and nobody else changes any of it, or reads what the call writes, while the call runs.
  *
  * Link with libxaluudhiga.a (x86-64 Linux). C99; C++ may include this file too.
@@ -210,7 +210,36 @@ enum {
 enum {
     XAL_STOP_IDLE = 1,   /* no move exists: only advance and arrival can go on */
     XAL_STOP_BUDGET = 2, /* the budget is used and a move exists */
-    XAL_STOP_ROOM = 3    /* the next move's record has no room in the output buffer; the move was not made */
+    XAL_STOP_ROOM = 3,   /* the next move's record has no room in the output buffer; the move was not made */
+    XAL_STOP_TRACE = 4   /* traced runs only: the next move's frames have no room in the trace room; the move was not made */
+};
+
+/* ---- Traces
+ *
+ * A traced run writes a frame of XAL_FRAME_BYTES for each change: XAL_TRACE, the kind, then a, b, c, d, e of two bytes each, high byte
+ * first. a is the element; b the id of the variable, event or transition that the kind names, else 0; c and d the high and low half of the
+ * new value, 1 for the kinds STARTED to ENABLED; e is 0. The first four kinds and the last two stand only where the value differs from
+ * before the move. The frames of a move stand by kind, then id. A move has at most 20; one that only goes on to the next transition has
+ * none.
+ *
+ * Lend a trace room of at least XAL_TRACE_MOST bytes: a smaller one may be too small for a move, and then no run gets past it.
+ *
+ * The debugger's file has a line for each frame: its 24 digits, upper case, ended by a line feed. xal_show reads such text.
+ */
+enum {
+    XAL_TRACE = 0x84,
+    XAL_TRACE_STATE = 0,    /* chart state; the value is the state's id */
+    XAL_TRACE_INTERNAL = 1, /* value of an internal variable, b; note that these three are not the numbers of XAL_ROLE_.. */
+    XAL_TRACE_INPUT = 2,    /* value of an input variable, b */
+    XAL_TRACE_OUTPUT = 3,   /* value of an output variable, b */
+    XAL_TRACE_STARTED = 4,  /* an event of the element was taken */
+    XAL_TRACE_FINISHED = 5, /* the element is done with it: at once where it has no state chart */
+    XAL_TRACE_SELECTED = 6, /* the event input, b, whose event was taken */
+    XAL_TRACE_EMITTED = 7,  /* the event output, b, was fired */
+    XAL_TRACE_ENABLED = 8,  /* the transition, b, was made */
+    XAL_TRACE_ACTION = 9,   /* action number: of the present state, from 1; 0 for none left */
+    XAL_TRACE_STEP = 10,    /* step number */
+    XAL_TRACE_MOST = 240    /* bytes of a move's frames at most */
 };
 
 /* ---- The calls */
@@ -248,6 +277,28 @@ uint64_t xal_arrival(const uint8_t *table, size_t table_bytes, uint32_t *store, 
  */
 uint64_t xal_run(const uint8_t *table, size_t table_bytes, uint32_t *store, size_t store_words, uint32_t budget, uint8_t *output,
                  size_t output_bytes, uint32_t *moves, uint32_t *stop, size_t *bytes);
+
+/*
+ * The same run with a trace beside it: it does what xal_run does, and writes the frames of each move it makes to the trace room, from the
+ * room's start. A move is traced whole or not made, so that the run may also stop because the next move's frames have no room; that is
+ * looked at after the record's room and before the budget. Tells besides the bytes of the trace. Refuses by 1 to 6.
+ * The rest of both rooms stays as it is. A refused call leaves store, output buffer and trace room as they came and tells 0 four times.
+ * Traces of runs that follow each other may be joined where no other call came between.
+ */
+uint64_t xal_run_traced(const uint8_t *table, size_t table_bytes, uint32_t *store, size_t store_words, uint32_t budget, uint8_t *output,
+                        size_t output_bytes, uint8_t *trace, size_t trace_bytes, uint32_t *moves, uint32_t *stop, size_t *bytes,
+                        size_t *traced);
+
+/*
+ * Shows a store as it was after some frames of a trace. The store is that from which the traced run started, and becomes the one shown:
+ * chart states and values are those after at most so many frames of the text, each word else stays. Tells how many frames were read, and
+ * the line that ended the reading, counted from 1: the first that is no line of a trace, or names an element, or an id or chart state of
+ * the element and kind, that the table does not have. Lines past the frames asked for are not looked at; 0 where no line ended it.
+ * Refuses by 1 to 5, and then writes nothing and tells 0 and 0. The store need not be well formed, so one that is shown can be shown on
+ * with the lines that follow; to go back, show from the start again.
+ */
+uint64_t xal_show(const uint8_t *table, size_t table_bytes, uint32_t *store, size_t store_words, const uint8_t *text, size_t text_bytes,
+                  size_t frames, size_t *shown, size_t *line);
 
 /*
  * The stretch of the table that holds the frames of one kind, and that which holds the steps of one action, named by its id. Answers its

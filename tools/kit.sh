@@ -2,6 +2,7 @@
 # Sourced by the scripts that prove, build and run something: it finds the kit and goes to the repository's root. For them it has
 #
 #   proving NAME WORD..        runs WORD.., a command of rt that proves the crate NAME and those below it, and shows how far it is
+#   build_program NAME         makes target/bin/NAME where it is older than a file of the crates, and sets `command` for it
 #   run_program FILE           sets `command`, the words that run a program as rt runs it
 #   build_host SOURCE NAME     makes target/hosts/NAME of a source in C and the static library
 #   run_host NAME              sets `command` for it
@@ -66,6 +67,17 @@ proving() {
     shift
     mkdir -p target
     "$@" </dev/null 2>&1 | tee "target/$name.log" | progress "$name" >&2 || { cat "target/$name.log" >&2; return 1; }
+}
+
+# A program is built only where it is proved. What has been proved before and has not changed since is not proved again. Exit status 2 where
+# that fails.
+build_program() {
+    local program=$PWD/target/bin/$1
+    if [[ ! -x $program || -n $(find crates crates.txt -newer "$program" -print -quit) ]]; then
+        proving "$1" rt check "$1" || exit 2
+        touch "$program"
+    fi
+    run_program "$program"
 }
 
 run_program() {

@@ -1,16 +1,18 @@
 /*
  * Makes the calls that it reads on standard input and writes what they answered and left to standard output, for tools/compare-c.
  *
- * A request is seven numbers of 8 bytes, low byte first (call, table bytes, store words, values, output bytes, number, time), and then the
- * table, the store, the values and the output buffer. The reply is five numbers (answer, moves, stop number, bytes or start, whether the
- * bytes around what was lent are as they were), and then all four as the call left them. It ends at the end of its input.
+ * A request is eight numbers of 8 bytes, low byte first (call, table bytes, store words, values, output bytes, trace bytes, number, time),
+ * and then the table, the store, the values, the output buffer and the trace room, which for a reading holds the text. The number is an
+ * arrival's event, a view's kind or action, or how many frames a reading is to show; the time is also a run's budget. The reply is eight
+ * numbers (answer, moves, stop number, bytes or start, trace bytes, frames shown, line, whether the bytes around what was lent are as they
+ * were), those that the call does not tell 0, and then all five as the call left them. It ends at the end of its input.
  */
 #include <stdint.h>
 #include <stdio.h>
 
 #include "xaluudhiga.h"
 
-enum { CHECK, NEED, LOAD, ADVANCE, ARRIVAL, RUN, FRAMES_OF, STEPS_OF };
+enum { CHECK, NEED, LOAD, ADVANCE, ARRIVAL, RUN, FRAMES_OF, STEPS_OF, RUN_TRACED, SHOW };
 
 /* ---- What is lent to a call lies between two stretches of guard bytes, which the call must leave alone. */
 enum { GUARD = 64, GUARD_BYTE = 0xA5, MOST = 65536 };
@@ -23,7 +25,7 @@ struct area {
     } at;
 };
 
-static struct area table, store, values, output;
+static struct area table, store, values, output, trace;
 
 static void *lent(struct area *area) {
     return area->at.byte + GUARD;
@@ -53,41 +55,72 @@ static void give(struct area *area) {
 /* ---- A call */
 
 struct request {
-    uint64_t call, table_bytes, store_words, value_count, output_bytes, number, time;
+    uint64_t call, table_bytes, store_words, value_count, output_bytes, trace_bytes, number, time;
 };
 
 struct reply {
-    uint64_t answer, moves, stop, bytes, guarded;
+    uint64_t answer, moves, stop, bytes, traced, shown, line, guarded;
 };
 
-static struct reply make(const struct request *r) {
-    /* Words that no call tells, so that one that is not told shows. */
-    uint32_t moves = 0xDEADDEAD, stop = 0xDEADDEAD;
-    size_t bytes = 0xDEADDEAD;
-    uint64_t answer = 0;
-    int run = 0, view = 0;
+/* What a call tells by pointers. Each word is one that no call tells, so that one that is not told shows. */
+struct told {
+    uint32_t moves, stop;
+    size_t bytes, traced, shown, line;
+};
+
+static const struct told untold = {0xDEADDEAD, 0xDEADDEAD, 0xDEADDEAD, 0xDEADDEAD, 0xDEADDEAD, 0xDEADDEAD};
+
+static uint64_t call(const struct request *r, struct told *told) {
     const uint8_t *t = lent(&table);
     size_t n = table.bytes, words = r->store_words;
     uint32_t *s = lent(&store), time = (uint32_t)r->time;
     switch (r->call) {
-    case CHECK: answer = xal_check(t, n); break;
-    case NEED: answer = xal_need(t, n); break;
-    case LOAD: answer = xal_load(t, n, s, words); break;
-    case ADVANCE: answer = xal_advance(t, n, s, words, time); break;
-    case ARRIVAL: answer = xal_arrival(t, n, s, words, r->number, time, lent(&values), r->value_count); break;
-    case RUN: answer = xal_run(t, n, s, words, time, lent(&output), output.bytes, &moves, &stop, &bytes); run = 1; break;
-    case FRAMES_OF: answer = xal_frames_of(t, n, r->number, &bytes); view = 1; break;
-    case STEPS_OF: answer = xal_steps_of(t, n, r->number, &bytes); view = 1; break;
+    case CHECK: return xal_check(t, n);
+    case NEED: return xal_need(t, n);
+    case LOAD: return xal_load(t, n, s, words);
+    case ADVANCE: return xal_advance(t, n, s, words, time);
+    case ARRIVAL: return xal_arrival(t, n, s, words, r->number, time, lent(&values), r->value_count);
+    case RUN: return xal_run(t, n, s, words, time, lent(&output), output.bytes, &told->moves, &told->stop, &told->bytes);
+    case FRAMES_OF: return xal_frames_of(t, n, r->number, &told->bytes);
+    case STEPS_OF: return xal_steps_of(t, n, r->number, &told->bytes);
+    case RUN_TRACED:
+        return xal_run_traced(t, n, s, words, time, lent(&output), output.bytes, lent(&trace), trace.bytes, &told->moves, &told->stop,
+                              &told->bytes, &told->traced);
+    case SHOW: return xal_show(t, n, s, words, lent(&trace), trace.bytes, r->number, &told->shown, &told->line);
     }
-    struct reply reply = {answer, run ? moves : 0, run ? stop : 0, run || view ? bytes : 0,
-                          guarded(&table) && guarded(&store) && guarded(&values) && guarded(&output)};
+    return 0;
+}
+
+static struct reply make(const struct request *r) {
+    struct told told = untold;
+    struct reply reply = {call(r, &told), 0, 0, 0, 0, 0, 0, 0};
+    int traced = r->call == RUN_TRACED, run = traced || r->call == RUN;
+    if (run) {
+        reply.moves = told.moves;
+        reply.stop = told.stop;
+    }
+    if (run || r->call == FRAMES_OF || r->call == STEPS_OF)
+        reply.bytes = told.bytes;
+    if (traced)
+        reply.traced = told.traced;
+    if (r->call == SHOW) {
+        reply.shown = told.shown;
+        reply.line = told.line;
+    }
+    reply.guarded = guarded(&table) && guarded(&store) && guarded(&values) && guarded(&output) && guarded(&trace);
     return reply;
+}
+
+/* Reads all that a call is lent; 0 where it is too long or not there. */
+static int take_all(const struct request *r) {
+    return take(&table, r->table_bytes) && take(&store, 4 * r->store_words) && take(&values, 4 * r->value_count) &&
+           take(&output, r->output_bytes) && take(&trace, r->trace_bytes);
 }
 
 int main(void) {
     struct request r;
     while (fread(&r, sizeof r, 1, stdin) == 1) {
-        if (!take(&table, r.table_bytes) || !take(&store, 4 * r.store_words) || !take(&values, 4 * r.value_count) || !take(&output, r.output_bytes)) {
+        if (!take_all(&r)) {
             fprintf(stderr, "a request is too long or cut off\n");
             return 2;
         }
@@ -97,6 +130,7 @@ int main(void) {
         give(&store);
         give(&values);
         give(&output);
+        give(&trace);
         fflush(stdout);
     }
     return 0;

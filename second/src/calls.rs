@@ -5,6 +5,7 @@ use crate::machine::Machine;
 use crate::model::{check, ElementKind, EventOutput, Model};
 use crate::rules::Refusal;
 use crate::store::{self, State, GREATEST_TIME};
+use crate::trace::{self, Trace};
 use crate::watch::{Sight, Watch};
 
 /// What a load or call answers. Refusal 0 is acceptance.
@@ -15,6 +16,8 @@ pub struct Answer {
     pub moves: u32,
     pub stop: u8,
     pub bytes: usize,
+    /// The bytes of the trace; 0 for a run that is not traced.
+    pub traced: usize,
 }
 
 /// Why a run ended.
@@ -22,6 +25,7 @@ pub mod stop {
     pub const NO_MOVE: u8 = 1;
     pub const BUDGET_USED: u8 = 2;
     pub const NO_ROOM: u8 = 3;
+    pub const NO_TRACE_ROOM: u8 = 4;
 }
 
 pub fn load(table: &[u8], store: &mut [u32]) -> Answer {
@@ -40,6 +44,20 @@ pub fn run(table: &[u8], store: &mut [u32], budget: u32, out: &mut [u8]) -> Answ
     Checked::of(table).run(store, budget, out, &mut ())
 }
 
+/// A run with a trace in a lent room, whose bytes past those told stay.
+pub fn run_traced(
+    table: &[u8],
+    store: &mut [u32],
+    budget: u32,
+    out: &mut [u8],
+    room: &mut [u8],
+) -> Answer {
+    let mut trace = Trace::within(room.len());
+    let answer = Checked::of(table).run_traced(store, budget, out, &mut trace, &mut ());
+    room[..answer.traced].copy_from_slice(&trace.bytes);
+    answer
+}
+
 /// A table judged once, for any number of calls.
 pub struct Checked(Result<Model, Refusal>);
 
@@ -53,8 +71,13 @@ impl Checked {
         self.0.as_ref().ok()
     }
 
+    /// The refusal of the table alone.
+    pub fn verdict(&self) -> Answer {
+        answer(self.0.as_ref().map(|_| Answer::default()).map_err(|refusal| *refusal))
+    }
+
     /// The network and its need; refusals 1 to 4, then 5.
-    fn model_for(&self, store: &[u32]) -> Result<&Model, Refusal> {
+    pub fn model_for(&self, store: &[u32]) -> Result<&Model, Refusal> {
         let model = self.0.as_ref().map_err(|refusal| *refusal)?;
         // "store shorter than its need".
         if store.len() < store::need(model) {
@@ -141,7 +164,23 @@ impl Checked {
         out: &mut [u8],
         watch: &mut impl Watch,
     ) -> Answer {
-        self.call(store, watch, |machine| Ok(make_moves(machine, budget, out)))
+        self.call(store, watch, |machine| Ok(make_moves(machine, budget, out, None)))
+    }
+
+    /// The same run with a trace beside it: "Trace room is checked before each
+    /// move, so a move is traced whole or not made."
+    ///
+    /// Open point: what other calls change. Only a run is traced, so a trace
+    /// can be read from the store that the run starts from, and no other.
+    pub fn run_traced(
+        &self,
+        store: &mut [u32],
+        budget: u32,
+        out: &mut [u8],
+        trace: &mut Trace,
+        watch: &mut impl Watch,
+    ) -> Answer {
+        self.call(store, watch, |machine| Ok(make_moves(machine, budget, out, Some(trace))))
     }
 }
 
@@ -210,8 +249,37 @@ fn judge_arrival(
     Ok(())
 }
 
+/// What holds up a move that exists.
+#[derive(Clone, Copy, PartialEq, Eq, Debug)]
+pub struct Held {
+    pub no_room: bool,
+    pub no_trace_room: bool,
+    pub budget_used: bool,
+}
+
+impl Held {
+    /// The stop number; `None` if nothing holds the move up. "4, no trace
+    /// room, looked at after 3 and before 2".
+    ///
+    /// Open point: when it is looked at. Before each move, also the one that
+    /// the budget does not allow any more, and at a budget of 0.
+    fn stop(self) -> Option<u8> {
+        match self {
+            Held { no_room: true, .. } => Some(stop::NO_ROOM),
+            Held { no_trace_room: true, .. } => Some(stop::NO_TRACE_ROOM),
+            Held { budget_used: true, .. } => Some(stop::BUDGET_USED),
+            _ => None,
+        }
+    }
+}
+
 /// The moves of a run, and what it tells.
-fn make_moves<W: Watch>(machine: &mut Machine<W>, budget: u32, out: &mut [u8]) -> Answer {
+fn make_moves<W: Watch>(
+    machine: &mut Machine<W>,
+    budget: u32,
+    out: &mut [u8],
+    mut trace: Option<&mut Trace>,
+) -> Answer {
     let mut told = Answer::default();
     loop {
         let Some(next) = machine.next_move() else {
@@ -220,15 +288,22 @@ fn make_moves<W: Watch>(machine: &mut Machine<W>, budget: u32, out: &mut [u8]) -
         };
         let room = &mut out[told.bytes..];
         let record = machine.record_bytes(next);
-        if record > room.len() {
-            told.stop = stop::NO_ROOM;
-            return told;
-        }
-        if told.moves == budget {
-            told.stop = stop::BUDGET_USED;
+        let frames = if trace.is_some() { trace::frames(machine, next) } else { Vec::new() };
+        let held = Held {
+            no_room: record > room.len(),
+            no_trace_room: trace.as_ref().is_some_and(|trace| !trace.has_room(&frames)),
+            budget_used: told.moves == budget,
+        };
+        if let Some(stop) = held.stop() {
+            machine.watch.see(Sight::Held(held));
+            told.stop = stop;
             return told;
         }
         machine.make(next, room);
+        if let Some(trace) = &mut trace {
+            trace.put(&frames, machine.watch);
+            told.traced = trace.bytes.len();
+        }
         told.moves += 1;
         told.bytes += record;
     }

@@ -1,8 +1,11 @@
-//! What sessions reached when running, and which numbers they missed.
+//! What sessions reached when running, and which numbers they missed; and the
+//! same of traces and their reading.
 
-use crate::calls::stop;
+use crate::calls::{stop, Held};
 use crate::model::ElementKind;
+use crate::reader::{Ending, Fault};
 use crate::table::kind;
+use crate::trace::trace_kind;
 use crate::watch::{Sight, Watch};
 use std::fmt::{self, Display, Formatter};
 
@@ -54,6 +57,8 @@ impl Watch for Coverage {
                 self.stops[usize::from(stop)] += 1;
             }
             Sight::Refused { number, kind } => self.see_refusal(number, kind),
+            // No answer of the step program tells any of these.
+            Sight::Traced(_) | Sight::Held(_) | Sight::Read(_) => {}
         }
     }
 }
@@ -190,18 +195,96 @@ impl Cell {
 impl Display for Coverage {
     fn fmt(&self, f: &mut Formatter<'_>) -> fmt::Result {
         write!(f, "sessions {}", self.sessions)?;
-        let mut row = "";
-        for cell in self.cells() {
-            if cell.row != row {
-                row = cell.row;
-                write!(f, "\n{row}:")?;
-            }
-            match (cell.reachable, cell.count) {
-                (false, 0) if row == "refusal" => write!(f, "  {} n/a from sessions", cell.label)?,
-                (false, 0) => write!(f, "  {} n/a", cell.label)?,
-                (_, count) => write!(f, "  {} {count}", cell.label)?,
-            }
+        write_cells(f, self.cells())
+    }
+}
+
+/// Each row on a line of its own.
+fn write_cells(f: &mut Formatter<'_>, cells: impl Iterator<Item = Cell>) -> fmt::Result {
+    let mut row = "";
+    for cell in cells {
+        if cell.row != row {
+            row = cell.row;
+            write!(f, "\n{row}:")?;
         }
-        Ok(())
+        match (cell.reachable, cell.count) {
+            (false, 0) if row == "refusal" => write!(f, "  {} n/a from sessions", cell.label)?,
+            (false, 0) => write!(f, "  {} n/a", cell.label)?,
+            (_, count) => write!(f, "  {} {count}", cell.label)?,
+        }
+    }
+    Ok(())
+}
+
+// ---------------------------------------------------------------- traces
+
+/// What traced runs and readings of traces reached.
+#[derive(Clone, Default, Debug)]
+pub struct TraceCoverage {
+    /// Frames, by kind.
+    pub kinds: [u64; trace_kind::LAST as usize + 1],
+    /// Moves that had no trace room, by what they lacked besides.
+    pub held: [u64; HELD.len()],
+    /// Readings that no line ended, in the order of [`ENDINGS`].
+    pub endings: [u64; ENDINGS.len()],
+    /// Readings that a line ended, in the order of [`Fault::ALL`].
+    pub faults: [u64; Fault::ALL.len()],
+}
+
+const HELD: [&str; 4] = ["only", "and budget used", "and no room", "and neither"];
+
+const ENDINGS: [Ending; 6] = [
+    Ending::AskedNone,
+    Ending::AskedFewer,
+    Ending::AskedAll,
+    Ending::TextEmpty,
+    Ending::TextEnded,
+    Ending::TextOpen,
+];
+
+impl Watch for TraceCoverage {
+    fn see(&mut self, sight: Sight) {
+        match sight {
+            Sight::Traced(kind) => self.kinds[usize::from(kind)] += 1,
+            Sight::Held(Held { no_room, no_trace_room: true, budget_used }) => {
+                self.held[2 * usize::from(no_room) + usize::from(budget_used)] += 1;
+            }
+            Sight::Read(Ending::Line(fault)) => count_in(&mut self.faults, &Fault::ALL, fault),
+            Sight::Read(ending) => count_in(&mut self.endings, &ENDINGS, ending),
+            _ => {}
+        }
+    }
+}
+
+/// Counts a thing at its place in a list that has it.
+fn count_in<T: PartialEq>(counts: &mut [u64], list: &[T], thing: T) {
+    let place = list.iter().position(|other| *other == thing).expect("the list has all");
+    counts[place] += 1;
+}
+
+impl TraceCoverage {
+    /// What traces and readings can reach and these did not.
+    pub fn missed(&self) -> Vec<String> {
+        let absent = self.cells().filter(|cell| cell.count == 0);
+        absent.map(|cell| format!("{} {}", cell.row, cell.label)).collect()
+    }
+
+    fn cells(&self) -> impl Iterator<Item = Cell> + '_ {
+        let kinds = self.kinds.iter().enumerate();
+        let kinds = kinds.map(|(kind, &count)| Cell::new("trace kind", &kind.to_string(), count));
+        let held = HELD.iter().zip(self.held);
+        let held = held.map(|(label, count)| Cell::new("no trace room", label, count));
+        let endings = ENDINGS.iter().zip(self.endings);
+        let endings = endings.map(|(e, count)| Cell::new("reading", &format!("{e:?}"), count));
+        let faults = Fault::ALL.iter().zip(self.faults);
+        let faults = faults.map(|(e, count)| Cell::new("ended by", &format!("{e:?}"), count));
+        kinds.chain(held).chain(endings).chain(faults)
+    }
+}
+
+impl Display for TraceCoverage {
+    fn fmt(&self, f: &mut Formatter<'_>) -> fmt::Result {
+        write!(f, "traces")?;
+        write_cells(f, self.cells())
     }
 }

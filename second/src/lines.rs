@@ -97,6 +97,12 @@ pub fn digits(bytes: &[u8]) -> Vec<u8> {
     bytes.iter().flat_map(|byte| [digit(byte >> 4), digit(byte & 15)]).collect()
 }
 
+/// Whole frames as lines of 24 digits, each ended by 0A.
+pub fn text_of(frames: &[u8]) -> Vec<u8> {
+    let line = |frame: &[u8]| [digits(frame), vec![b'\n']].concat();
+    frames.chunks(FRAME_BYTES).flat_map(line).collect()
+}
+
 /// The shortest line for a frame.
 pub fn shortest_line(frame: &Frame) -> Vec<u8> {
     let bytes = frame.to_bytes();

@@ -92,6 +92,7 @@ pub struct ChartState {
 
 #[derive(Clone, Copy, PartialEq, Eq, Debug)]
 pub struct Transition {
+    pub id: usize,
     pub to: usize,
     /// `None` for FFFF: "whose event is none".
     pub event: Option<usize>,
@@ -130,6 +131,8 @@ pub struct Model {
     pub event_outputs: Vec<EventOutput>,
     pub variables: Vec<Variable>,
     pub states: Vec<ChartState>,
+    /// Per transition: the element that both its states are of.
+    pub transition_elements: Vec<usize>,
     pub actions: Vec<Action>,
     pub steps: Vec<Step>,
     /// Where in the table the frames of each kind stand (kinds 0 to 11).
@@ -163,6 +166,7 @@ impl Model {
             event_outputs: frames.of(kind::EVENT_OUTPUT).map(event_output).collect(),
             variables: frames.of(kind::VARIABLE).map(variable).collect(),
             states: frames.of(kind::STATE).map(chart_state).collect(),
+            transition_elements: Vec::new(),
             actions: frames.of(kind::ACTION).map(action).collect(),
             steps: frames.of(kind::STEP).map(step).collect(),
             stretches: (0..=kind::LAST).map(|k| stretch(frames.positions(k))).collect(),
@@ -194,8 +198,10 @@ impl Model {
     }
 
     fn link_to_states(&mut self, frames: &Frames) {
-        for frame in frames.of(kind::TRANSITION) {
-            self.states[id(frame.a())].transitions.push(transition(frame));
+        for (number, frame) in frames.of(kind::TRANSITION).enumerate() {
+            let from = &mut self.states[id(frame.a())];
+            from.transitions.push(transition(number, frame));
+            self.transition_elements.push(from.element);
         }
         for (number, frame) in frames.of(kind::ACTION).enumerate() {
             self.states[id(frame.a())].actions.push(number);
@@ -334,8 +340,9 @@ fn chart_state(frame: &Frame) -> ChartState {
     ChartState { element: id(frame.a()), transitions: Vec::new(), actions: Vec::new() }
 }
 
-fn transition(frame: &Frame) -> Transition {
+fn transition(number: usize, frame: &Frame) -> Transition {
     Transition {
+        id: number,
         to: id(frame.b()),
         event: optional_id(frame.c()),
         guard: Guard { number: frame.flag, d: id(frame.d()), e: id(frame.e()) },

@@ -103,6 +103,16 @@ pub fn need(model: &Model) -> usize {
     Layout::of(model).variables.end
 }
 
+/// Where the chart state of an element lies.
+pub fn chart_state_at(model: &Model, element: usize) -> usize {
+    Layout::of(model).elements.start + PER_ELEMENT * element
+}
+
+/// Where the value of a variable lies.
+pub fn value_at(model: &Model, variable: usize) -> usize {
+    Layout::of(model).variables.start + PER_VARIABLE * variable
+}
+
 // ---------------------------------------------------------------- load
 
 /// "Load zeroes the need, then sets initial chart states, and start values in

@@ -1,7 +1,9 @@
 //! What the machine and the step program tell a watcher while they work. The
 //! watcher counts (see [`crate::coverage`]) and can change nothing.
 
+use crate::calls::Held;
 use crate::model::ElementKind;
+use crate::reader::Ending;
 
 /// One thing that happened when running.
 #[derive(Clone, Copy, PartialEq, Eq, Debug)]
@@ -30,6 +32,12 @@ pub enum Sight {
     Refused { number: u8, kind: Option<u8> },
     /// A line of any other form or place, or a missing 82.
     Malformed,
+    /// A frame of this kind was traced.
+    Traced(u8),
+    /// A run was held up before a move.
+    Held(Held),
+    /// A trace was read up to here.
+    Read(Ending),
 }
 
 pub trait Watch {

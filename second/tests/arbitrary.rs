@@ -1,19 +1,19 @@
-//! The calls on any table, store, time and value list: they answer, a refused
-//! call leaves everything as it came, and an accepted one keeps the store well
-//! formed, the words past the need and the rest of the output buffer.
+//! The calls on any table, store, time, value list and text: they answer, a
+//! refused call leaves everything as it came, and an accepted one keeps the
+//! store well formed, the words past the need and the rest of the output buffer
+//! and the trace room.
 
+use second::coverage::TraceCoverage;
+use second::gen::faults::{faulty_line, good_line};
 use second::gen::requests::requests;
-use second::host::{reply, Call, Reply, Request};
-use second::{check, store};
+use second::gen::rng::Rng;
+use second::gen::session;
+use second::host::{reply, reply_watched, Call, Reply, Request};
+use second::lines::{lines_of, part, table_of_lines};
+use second::reader::{Ending, Fault};
+use second::watch::{Sight, Watch};
+use second::{check, store, Checked, Model};
 use std::collections::BTreeSet;
-
-/// The output buffer that a call is lent.
-fn lent(call: &Call) -> &[u8] {
-    match call {
-        Call::Run { output, .. } => output,
-        _ => &[],
-    }
-}
 
 /// The refusal number of a call; none of those that only look at the table.
 fn refusal(call: &Call, reply: &Reply) -> Option<u64> {
@@ -23,21 +23,51 @@ fn refusal(call: &Call, reply: &Reply) -> Option<u64> {
 
 fn judge_refused(request: &Request, reply: &Reply) {
     assert_eq!(request.store, reply.store, "a refused call wrote to the store");
-    assert_eq!(lent(&request.call), reply.output, "a refused call wrote to the output");
+    assert_eq!(request.call.output(), reply.output, "a refused call wrote to the output");
+    assert_eq!(request.call.trace(), reply.trace, "a refused call wrote to the trace room");
     assert_eq!((reply.moves, reply.stop, reply.bytes), (0, 0, 0));
+    assert_eq!((reply.traced, reply.shown, reply.line), (0, 0, 0));
 }
 
 fn judge_accepted(request: &Request, reply: &Reply) {
-    let written = reply.bytes as usize;
-    assert_eq!(lent(&request.call)[written..], reply.output[written..]);
-    if request.call == Call::Check {
-        assert_eq!(request.store, reply.store);
-        return;
-    }
+    let (written, traced) = (reply.bytes as usize, reply.traced as usize);
+    assert_eq!(request.call.output()[written..], reply.output[written..]);
+    assert_eq!(request.call.trace()[traced..], reply.trace[traced..]);
     let model = check(&request.table).expect("an accepted call has a table");
-    assert!(store::read(&model, &reply.store).is_some(), "not well formed any more");
-    let need = store::need(&model);
-    assert_eq!(request.store[need..], reply.store[need..]);
+    match request.call {
+        Call::Check => assert_eq!(request.store, reply.store),
+        Call::Show { .. } => judge_shown(&model, request, reply),
+        _ => {
+            assert!(store::read(&model, &reply.store).is_some(), "not well formed any more");
+            let need = store::need(&model);
+            assert_eq!(request.store[need..], reply.store[need..]);
+        }
+    }
+}
+
+/// A reading writes chart states and values alone, and a state only to a block
+/// that has it.
+fn judge_shown(model: &Model, request: &Request, reply: &Reply) {
+    let mut store = request.store.clone();
+    for id in 0..model.elements.len() {
+        let at = store::chart_state_at(model, id);
+        if reply.store[at] != store[at] {
+            assert_eq!(model.states[reply.store[at] as usize].element, id);
+            store[at] = reply.store[at];
+        }
+    }
+    for at in (0..model.variables.len()).map(|id| store::value_at(model, id)) {
+        store[at] = reply.store[at];
+    }
+    assert_eq!(store, reply.store, "a reading wrote to another word");
+    let Call::Show { text, frames } = &request.call else {
+        return;
+    };
+    let lines = lines_of(text).len() as u64;
+    match reply.line {
+        0 => assert_eq!(reply.shown, lines.min(*frames)),
+        line => assert!(line == reply.shown + 1 && line <= lines.min(*frames)),
+    }
 }
 
 #[test]
@@ -80,4 +110,60 @@ fn a_seed_gives_the_same_requests_each_time() {
         all
     };
     assert_eq!(drawn(), drawn());
+}
+
+// ---------------------------------------------------------------- traces
+
+#[test]
+fn five_thousand_calls_reach_every_trace_kind_and_every_fault() {
+    let (mut reached, mut calls, mut round) = (TraceCoverage::default(), 0, 0);
+    while calls < 5000 {
+        requests(5, round, &mut |request| {
+            calls += 1;
+            reply_watched(&request, &mut reached).store
+        });
+        round += 1;
+    }
+    assert_eq!(reached.missed(), Vec::<String>::new());
+    // 11 kinds, 4 ways to be held, 6 endings and 24 faults.
+    assert_eq!(TraceCoverage::default().missed().len(), 11 + 4 + 6 + 24);
+}
+
+struct Last(Option<Ending>);
+
+impl Watch for Last {
+    fn see(&mut self, sight: Sight) {
+        if let Sight::Read(ending) = sight {
+            self.0 = Some(ending);
+        }
+    }
+}
+
+/// How the reading of one line ends, over a table and any store.
+fn ending_of(checked: &Checked, line: &[u8]) -> Option<Ending> {
+    let mut last = Last(None);
+    checked.show(&mut vec![0; 2000], &[line, b"\n"].concat(), 2, &mut last);
+    last.0
+}
+
+#[test]
+fn a_faulty_line_has_just_its_fault() {
+    let mut made = BTreeSet::new();
+    for number in 0..60 {
+        let session = session(8, number);
+        let lines = lines_of(&session);
+        let checked = Checked::of(&table_of_lines(part(&lines).0).unwrap_or_default());
+        let Some(model) = checked.model() else {
+            continue;
+        };
+        let mut rng = Rng::new(8, number);
+        assert_eq!(ending_of(&checked, &good_line(&mut rng, model)), Some(Ending::TextEnded));
+        for fault in Fault::ALL {
+            if let Some(line) = faulty_line(&mut rng, model, fault) {
+                assert_eq!(ending_of(&checked, &line), Some(Ending::Line(fault)));
+                made.insert(fault);
+            }
+        }
+    }
+    assert_eq!(made, Fault::ALL.into_iter().collect());
 }

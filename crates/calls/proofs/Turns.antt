@@ -7,9 +7,8 @@ use native.Mathlib.Omega.{arith}
 use lib.Dec.{eqb, ltb}
 use lib.ListN.{length}
 use lib.Seq.{sets}
-use borrow.Author.Tests.{ltb-false, eq-eqb, ne-eqb, lt-ltb, le-ltb, eqb-true}
-use Rattle.rules_walks.specs.Pick.{pick, both}
-use Rattle.rules_walks.specs.Choose.{choose}
+use borrow.Author.Tests.{eq-eqb, ne-eqb, lt-ltb, le-ltb, eqb-true}
+use Rattle.rules_walks.specs.Pick.{pick}
 use Rattle.rules_walks.specs.laws.Choose.{choose-true, choose-false}
 use Rattle.rules_tables.specs.declared.Shape.{Shape}
 use Rattle.rules_tables.specs.declared.Judged.{Judged}
@@ -17,11 +16,9 @@ use Rattle.rules_tables.specs.declared.Judged.the-variants.{Sound, Refused as �
 use Rattle.rules_tables.specs.Judge.{Verdict, accepted, refused, judge, judged, shapeOf}
 use Rattle.rules_store.specs.Layout.{need}
 use Rattle.rules_store.specs.Word.{nowOf}
-use Rattle.rules_store.specs.WellFormed.{wellFormed}
-use Rattle.rules_store.specs.laws.WellFormed.{formed-means}
 use Rattle.rules_store.specs.Load.{loaded}
 use Rattle.calls_run.specs.declared.running.Ran.{Ran}
-use Rattle.rules_calls.specs.Run.{after, bytes, made}
+use Rattle.rules_calls.specs.Run.{after, bytes}
 use Rattle.rules_calls.specs.Calls.{advanced, arrived, ofSource, valueCount}
 use Rattle.rules_calls.specs.declared.Answer.{Answer}
 use Rattle.rules_calls.specs.declared.Answer.the-variants.{Refused, Done, Ran as «RanTo»}
@@ -30,6 +27,7 @@ use Rattle.rules_calls.specs.Public.{runAnswer, LoadCall, AdvanceCall, ArrivalC
 use Rattle.rules_calls.specs.Refusals.{loadRefusal, storeRefusal, orElse, timeRefusal, advanceRefusal, eventRefusal, arrivalRefusal}
 use Rattle.rules_calls.specs.laws.Checked.{faulty, verdict, shape}
 use Rattle.rules_calls.specs.laws.Public.{load-call, advance-call, arrival-call, run-call}
+use Rattle.laws_calls.specs.laws.Refusals.{store-formed}
 use Rattle.calls_run.specs.RunMade.{RunMade}
 
 -- ---- by the verdict and the call's own refusal
@@ -54,13 +52,7 @@ module _ (v : Verdict) (q : ℕ) where
 
 -- ---- no refusal of the store: it is long enough and well formed, so now is in range
 pub store-now : (T : List ℕ) (S : Shape) (s : List ℕ) → storeRefusal T S s ≡ 0 → nowOf s < 2147483648
-unfolding storeRefusal
-store-now T S s e = by (ltb (length s) (need S)) (wellFormed T S s) refl refl e
-  where
-    by : (a b : Bool) → ltb (length s) (need S) ≡ a → wellFormed T S s ≡ b → _≡_ {A = ℕ} (pick a 5 (pick b 0 6)) 0 → nowOf s < 2147483648
-    by true b g h z = absurd (omega arith)
-    by false true g h z = let w = formed-means T S s (ltb-false _ _ g) h .parts .in-time in omega arith
-    by false false g h z = absurd (omega arith)
+store-now T S s e = let w = store-formed T S s e .parts .in-time in omega arith
 
 -- an arrival that is not refused names an event output of a source and has its number of values
 pub event-known : (T : List ℕ) (S : Shape) (s : List ℕ) (o birth : ℕ) (vs : List ℕ) → eventRefusal T S s o birth vs ≡ 0 → (ofSource T S o ≡ true) × (length vs ≡ valueCount T S o)

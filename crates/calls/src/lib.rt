@@ -1,10 +1,14 @@
-// Load, advance, arrival and run.
+// Load, advance, arrival and run, and the reader of a trace.
 ghost use mathlib.Core.Path.{_≡_};
 ghost use Prim.Native.Nat.{_<_};
 ghost use Rattle.rules_tables.specs.Good.{Good};
 ghost use Rattle.rules_calls.specs.Answer.{refusedOf};
 ghost use Rattle.rules_calls.specs.Refusals.{storeRefusal, timeRefusal, eventRefusal};
 ghost use Rattle.rules_calls.specs.Public.{LoadCall, AdvanceCall, ArrivalCall, RunCall};
+
+pub mod show;
+pub mod traced;
+
 use calls_run::calls::advance_to;
 use calls_run::calls::arrive;
 use calls_run::calls::beyond_due;
@@ -32,7 +36,7 @@ pub fn refused(judged: Judged) -> Answer
 }
 
 // 5, 6 or 0.
-fn store_refusal(t: &[u8], store: &[u32], shape: Shape) -> usize
+pub fn store_refusal(t: &[u8], store: &[u32], shape: Shape) -> usize
     requires { ⌜ Good (now t) shape ⌝ }
     ensures { λ r. ⌜ r ≡ storeRefusal (now (t .entry)) shape (now (store .entry)) ⌝ }
 {
@@ -150,6 +154,7 @@ pub fn run(t: &[u8], store: &mut [u32], budget: u32, out: &mut [u8]) -> Answer
         return Answer::Refused(q, 0);
     }
     let at = time(store);
-    let r = run_moves(t, store, shape, at, budget, out);
+    let mut none = [0u8; 0];
+    let r = run_moves(t, store, shape, at, budget, out, &mut none, false);
     Answer::Ran(r.moves, r.bytes, r.stop)
 }

@@ -122,7 +122,7 @@ module _ (T : List ℕ) (S : Shape) (time budget : ℕ) (s₀ out₀ : List ℕ)
           }
 
     -- the run stops
-    pub going-done : {stop : ℕ} → stop ≡ asked next z at (length out) n budget → (stop ≡ 0 → ⊥) → RunMade T S time budget s₀ out₀ (record { moves = n; bytes = at; stop = stop }) s out
+    pub going-done : {stop : ℕ} → stop ≡ asked next z at (length out) n budget → (stop ≡ 0 → ⊥) → {p : ℕ} → RunMade T S time budget s₀ out₀ (record { moves = n; bytes = at; stop = stop; traced = p }) s out
     unfolding asked continues made stopAfter
     going-done {stop} e ne =
         let c = stops (moves next) (leb (at + z) (length out)) (ltb n budget) (λ h. ne (e ∙ h)) in

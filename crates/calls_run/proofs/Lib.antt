@@ -1,2 +1,3 @@
+mod Tracing
 mod Turns
 mod Going

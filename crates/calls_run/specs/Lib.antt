@@ -1,1 +1,2 @@
 pub mod RunMade
+pub mod laws

@@ -147,7 +147,7 @@ pub fn go_idle(store: &mut [u32])
 }
 
 // The running element.
-fn element_of(store: &[u32]) -> usize
+pub fn element_of(store: &[u32]) -> usize
     ensures { λ r. ⌜ Bounded 4294967296 (elementOf (now (store .entry))) r ⌝ }
 {
     let w = wide(running_element(store));

@@ -1,19 +1,13 @@
 -- What each way through a move leaves, over plain variables.
 use mathlib.Core.Path.{_≡_, refl, sym, ap, _∙_}
 use mathlib.Core.List.{List}
-use mathlib.Core.Bool.{Bool, true, false}
 use Prim.Native.Nat.{ℕ, _+_, _-_, _<_, _≤_}
 use native.Mathlib.Omega.{arith}
-use lib.Dec.{eqb}
 use lib.IntN.{pos}
 use lib.ListN.{length}
-use borrow.Author.Tests.{eq-eqb, ne-eqb, lt-ltb, le-ltb, eqb-true}
-use Rattle.rules_walks.specs.Pick.{pick}
-use Rattle.rules_walks.specs.laws.Pick.{both-right}
+use borrow.Author.Tests.{eq-eqb, ne-eqb, lt-ltb, le-ltb}
 use Rattle.rules_walks.specs.laws.Choose.{choose-true, choose-false}
-use Rattle.rules_walks.specs.laws.Count.{count-le}
-use Rattle.rules_walks.specs.First.{one, missing}
-use Rattle.rules_walks.specs.laws.First.{first-in, first-true}
+use Rattle.rules_walks.specs.First.{one}
 use Rattle.rules_numbers.specs.Word.{signed, word}
 use Rattle.rules_numbers.specs.Operation.{operation}
 use Rattle.rules_tables.specs.Kind.{none}
@@ -21,12 +15,11 @@ use Rattle.rules_tables.specs.Frame.{flagAt, fieldAt}
 use Rattle.rules_tables.specs.declared.Shape.{Shape}
 use Rattle.rules_store.specs.declared.Running.{Running}
 use Rattle.rules_tables.specs.Good.{Good}
-use Rattle.rules_tables.specs.Ids.{firstAction, outputs, actions, actionFrame, stepFrame}
+use Rattle.rules_tables.specs.Ids.{outputs, actions, actionFrame, stepFrame}
 use Rattle.rules_store.specs.Running.{idle, charts, stepped, entered, charting}
 use Rattle.rules_store.specs.Word.{currentEvent, runningOf, putRunning, value, putValue, birthOf}
 use Rattle.table_parts.specs.declared.Found.{Found}
 use Rattle.table_parts.specs.declared.Found.the-variants.{One, Missing}
-use Rattle.rules_tables.specs.Owned.{any, belongs, isNth, nth, rank}
 use Rattle.table_parts.specs.Found.{foundOf}
 use Rattle.table_parts.specs.laws.Found.{found-one, found-missing}
 use Rattle.rules_moves.specs.Fire.{fire}
@@ -36,7 +29,7 @@ use Rattle.rules_moves.specs.declared.Best.the-variants.{At, Nothing as «NoEve
 use Rattle.rules_moves.specs.Least.{least}
 use Rattle.rules_moves.specs.Chart.{transitionOf, change, goIdle, elementOf, stateOf}
 use Rattle.rules_tables.specs.Actions.{actionOf, actionNumber}
-use Rattle.rules_tables.specs.laws.Actions.{action-below}
+use Rattle.rules_tables.specs.laws.Actions.{action-below, action-few}
 use Rattle.rules_moves.specs.Take.{fireFound}
 use Rattle.rules_moves.specs.Record.{putOut}
 use Rattle.moves_take.specs.Received.{Sized, Received}
@@ -138,20 +131,6 @@ module _ (T : List ℕ) (S : Shape) (r : Running) (s : List ℕ) {n : Next} wher
   next-acts a b e = rw (choose-false _ _ _ (ne-eqb (r .mode) idle a), choose-false _ _ _ (ne-eqb (r .mode) charts b)) e
 
 -- ---- one move, by what comes next
--- the number of an action is no larger than the number of actions
-action-few : (T : List ℕ) (S : Shape) (q k j : ℕ) → actionOf T S q k ≡ one j → k ≤ actions S
-unfolding actionOf isNth
-action-few T S q k j = by (eqb k 0)
-  where
-    by : (b : Bool) → pick b missing (nth T (firstAction S) (actions S) any q (k - 1)) ≡ one j → k ≤ actions S
-    by true e = absurd (let z : _≡_ {A = ℕ} 0 1 = cc in omega arith)
-    by false e =
-        let l = first-in (isNth T (firstAction S) any q (k - 1)) 0 (actions S) j e in
-        let t = first-true (isNth T (firstAction S) any q (k - 1)) 0 (actions S) j e in
-        let n = eqb-true (rank T (firstAction S) any q j) (k - 1) (both-right (belongs T (firstAction S) any q j) (eqb (rank T (firstAction S) any q j) (k - 1)) t) in
-        let c = count-le (belongs T (firstAction S) any q) j in
-        omega arith
-
 module _ (T : List ℕ) (S : Shape) (r : Running) (s : List ℕ) (n : Next) (comes : n ≡ nextBy T S r s) (g : Good T S) (j : ℕ) where
   stepping : n ≡ Step j → Stepping T S r s j
   stepping e = answer-means T S r s (Step j) (sym e ∙ comes)

@@ -1,6 +1,6 @@
 // Moves 4 and 5: a step, and the end of an action.
 ghost use mathlib.Core.Path.{_≡_};
-ghost use Prim.Native.Nat.{_-_, _<_, _≤_};
+ghost use Prim.Native.Nat.{_<_};
 ghost use Rattle.rules_tables.specs.Frame.{framesOf};
 ghost use Rattle.rules_tables.specs.Good.{Good};
 ghost use Rattle.store_words.specs.Small.{Small};
@@ -14,6 +14,7 @@ use moves_chart::number_after;
 use moves_chart::state_of;
 use moves_fire::fire;
 use numbers::operation::operate_words;
+use numbers::word::since;
 use rules_store::Running;
 use rules_tables::Shape;
 use store_words::shape::action_frame;
@@ -24,13 +25,6 @@ use store_words::word::value_of;
 use table_frames::frame::field;
 use table_frames::frame::flag;
 use table_frames::kind::NONE;
-
-// How long ago, or 0.
-fn since(time: u32, birth: u32) -> u32
-    ensures { λ r. ⌜ (r ≡ time - birth) × (r ≤ time) ⌝ }
-{
-    if birth <= time { time - birth } else { 0 }
-}
 
 // The step at frame f.
 fn one_step(t: &[u8], store: &mut [u32], shape: Shape, f: usize, age: u32)

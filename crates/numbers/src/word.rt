@@ -1,5 +1,6 @@
 // A store word and its signed value.
 ghost use mathlib.Core.Path.{_≡_};
+ghost use Prim.Native.Nat.{_-_, _≤_};
 ghost use Rattle.numbers.specs.Bounded.{Bounded};
 ghost use Rattle.rules_numbers.specs.Word.{signed, word, ticksOf};
 
@@ -30,6 +31,13 @@ pub fn ticks(dt: u32) -> u32
     ensures { λ r. ⌜ Bounded 2147483648 (ticksOf (signed dt)) r ⌝ }
 {
     if dt < 0x8000_0000 { dt } else { 0 }
+}
+
+// How long ago, or 0.
+pub fn since(time: u32, birth: u32) -> u32
+    ensures { λ r. ⌜ (r ≡ time - birth) × (r ≤ time) ⌝ }
+{
+    if birth <= time { time - birth } else { 0 }
 }
 
 // A word as a count or a place.

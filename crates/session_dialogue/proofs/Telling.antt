@@ -29,7 +29,8 @@ use Rattle.session_dialogue.specs.declared.session.Phase.the-variants.{T
 use Rattle.session_dialogue.specs.declared.session.Session.{Session}
 use Rattle.rules_sessions.specs.RunText.{runText}
 use Rattle.rules_sessions.specs.Session.{Stage, tabled, calling, awaiting, halted, Deed, silent, andThen, malformed, afterLoad, loadDeed, advanceDeed, arrivalDeed, cleared, runDeed, arrivalBy, callBy, valueBy, frameDeed, judgedLine, lineDeed}
-use Rattle.session_dialogue.specs.Standing.{phaseAfter, isStopped, Tabled, Came, InTable, InCalls, Stands, Took, Calm, Printed}
+use Rattle.session_dialogue.specs.Standing.{phaseAfter, isStopped, Tabled, Came, InTable, InCalls, Stands, Took, Calm}
+use Rattle.lines.specs.Printed.{Printed}
 use Rattle.rules_sessions.specs.laws.Session.{many-lines}
 use Rattle.session_dialogue.proofs.Buffers.{table-cases}
 

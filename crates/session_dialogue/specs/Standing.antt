@@ -88,12 +88,6 @@ pub record Calm (most : ℕ) (s r : Session) : Type 0 where
   pub length-is : r .length ≡ s .length
   pub room : r .at ≤ s .at + most
 
--- P printed from `at` on, up to `most` at most
-pub record Printed (P : List ℕ) (at most r : ℕ) (text text′ : List ℕ) : Type 0 where
-  pub place-is : r ≡ at + length P
-  pub text-is : text′ ≡ sets text at P
-  pub room : r ≤ most
-
 -- ---- a session between two bytes stands for a reading; `out` was written, and the rest of what was printed waits in the text
 pub record Follows (rd : Reading) (out : List ℕ) (s : Session) (t st W line text : List ℕ) : Type 0 where
   pub stands : Stands (rd .stage) s t st W

@@ -9,8 +9,8 @@ use crate::line::take_none;
 use crate::part::has_room;
 use crate::part::one_more;
 use crate::part::put_character;
-use crate::part::stretch;
 use crate::session::Session;
+use lines::part::stretch;
 
 // What one byte may print at most.
 pub const BYTE_ROOM: usize = 12338;

@@ -9,8 +9,8 @@ ghost use Rattle.rules_sessions.specs.Session.{frameDeed};
 ghost use Rattle.session_dialogue.specs.Standing.{Tabled, InTable, Took, Calm};
 use crate::session::Session;
 use crate::told::malformed;
-use session_lines::line::line_ok;
-use session_lines::line::put_frame;
+use lines::line::line_ok;
+use lines::line::put_frame;
 
 // The table with the line's frame after those before, and its end. Frames past the buffer are dropped: it has room for one frame more than a table may have, so
 // a table with too many lines is refused by its length.

@@ -11,7 +11,7 @@ use crate::told::call_line;
 use crate::told::malformed;
 use crate::told::tell_load;
 use crate::told::value_line;
-use session_lines::line::opens;
+use lines::line::opens;
 
 // The first line beginning 80 to 83: the table is loaded, and then the line is judged.
 fn opening_line(

@@ -5,13 +5,6 @@ ghost use lib.Dec.{leb};
 ghost use lib.ListN.{length, take, drop, set};
 ghost use Rattle.session_dialogue.specs.Standing.{oneMore};
 
-// The first n bytes, or all there are.
-pub fn stretch(s: &[u8], n: usize) -> &[u8]
-    ensures { λ r. ⌜ now r ≡ take n (now (s .entry)) ⌝ }
-{
-    if n <= s.len() { &s[0..n] } else { s }
-}
-
 // The bytes from a place on.
 pub fn rest(s: &[u8], from: usize) -> &[u8]
     requires { ⌜ from ≤ length (now s) ⌝ }

@@ -1,3 +1,2 @@
-mod Reading
 mod Printing
 mod Splitting

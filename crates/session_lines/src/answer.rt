@@ -5,7 +5,7 @@ ghost use lib.ListN.{length};
 ghost use lib.Seq.{sets};
 ghost use Rattle.rules_sessions.specs.AnswerLine.{answerFrame, answerLine, malformedLine};
 ghost use Rattle.rules_sessions.specs.Text.{lineOf};
-use crate::text::put_line;
+use lines::text::put_line;
 use numbers::bytes::put_half;
 use numbers::bytes::put_word;
 use rules_calls::Answer;

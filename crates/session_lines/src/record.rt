@@ -7,7 +7,7 @@ ghost use Rattle.rules_tables.specs.Good.{Good};
 ghost use Rattle.rules_moves.specs.Record.{recordSize};
 ghost use Rattle.rules_tables.specs.Judge.{judged};
 ghost use Rattle.rules_sessions.specs.RecordLines.{recordLines, recordsBy};
-use crate::text::put_line;
+use lines::text::put_line;
 use moves_take::record::record_size;
 use numbers::bytes::half_at;
 use rules_tables::Judged;

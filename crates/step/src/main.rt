@@ -9,11 +9,11 @@ ghost use Rattle.rules_sessions.specs.Reading.{Reading, afterBytes};
 ghost use Rattle.session_dialogue.specs.Standing.{KeepsUp};
 use libc::STDIN_FILENO;
 use libc::STDOUT_FILENO;
+use lines::part::stretch;
 use session_dialogue::feeding::END_ROOM;
 use session_dialogue::feeding::feed;
 use session_dialogue::feeding::finish;
 use session_dialogue::part::rest;
-use session_dialogue::part::stretch;
 use session_dialogue::session::Session;
 
 // A session, and whether the text was written where it had to be.

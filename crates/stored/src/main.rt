@@ -6,11 +6,11 @@ ghost use Prim.Native.Nat.{_+_, _≤_, _<_};
 ghost use lib.ListN.{length};
 use libc::STDIN_FILENO;
 use libc::STDOUT_FILENO;
+use lines::part::stretch;
 use session_dialogue::feeding::END_ROOM;
 use session_dialogue::feeding::feed;
 use session_dialogue::feeding::finish;
 use session_dialogue::part::has_room;
-use session_dialogue::part::stretch;
 use session_dialogue::session::Session;
 
 // The place of the next such mark from `from` on, or the end.

@@ -5,6 +5,7 @@ ghost use Rattle.rules_tables.specs.View.{kindSpan, stepSpan};
 ghost use Rattle.rules_calls.specs.Answer.{refusedOf};
 ghost use Rattle.rules_calls.specs.Compact.{Compact};
 ghost use Rattle.rules_calls.specs.Exports.{packed, LoadTold, AdvanceTold, ArrivalTold, RunTold, Lies, needOr0};
+ghost use Rattle.rules_traces.specs.Public.{TracedTold, ShowTold};
 use rules_calls::Answer;
 use rules_tables::Judged;
 use store_words::shape::need;
@@ -86,6 +87,49 @@ pub extern "C" fn xal_run(
     *moves = answer.moves();
     *stop = answer.stop();
     *bytes = answer.bytes();
+    pack(answer)
+}
+
+// `run_traced`; moves, stop number, bytes and trace bytes are handed out through pointers, all 0 where the call is refused.
+#[no_mangle]
+pub extern "C" fn xal_run_traced(
+    table: &[u8],
+    store: &mut [u32],
+    budget: u32,
+    out: &mut [u8],
+    trace: &mut [u8],
+    moves: &mut u32,
+    stop: &mut u32,
+    bytes: &mut usize,
+    traced: &mut usize,
+) -> u64
+    ensures { λ r. ⌜ TracedTold (now (table .entry)) (now (store .entry)) budget (now (out .entry)) (now (trace .entry)) r (now (moves .exit)) (now (stop .exit)) (now (bytes .exit)) (now (traced .exit)) (now (store .exit)) (now (out .exit)) (now (trace .exit)) ⌝ }
+{
+    let told = calls::traced::run_traced(table, store, budget, out, trace);
+    *traced = told.traced;
+    let ran = told.answer;
+    *moves = ran.moves();
+    *stop = ran.stop();
+    *bytes = ran.bytes();
+    pack(ran)
+}
+
+// `show`; the frames read and the line that ended the reading are handed out through pointers, both 0 where the call is refused.
+#[no_mangle]
+pub extern "C" fn xal_show(
+    table: &[u8],
+    store: &mut [u32],
+    text: &[u8],
+    frames: usize,
+    shown: &mut usize,
+    line: &mut usize,
+) -> u64
+    ensures { λ r. ⌜ ShowTold (now (table .entry)) (now (store .entry)) (now (text .entry)) frames r (now (shown .exit)) (now (line .exit)) (now (store .exit)) ⌝ }
+{
+    let told = calls::show::show(table, store, text, frames);
+    *shown = told.shown;
+    *line = told.line;
+    let answer = told.answer;
     pack(answer)
 }
 

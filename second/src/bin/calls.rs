@@ -1,8 +1,9 @@
 //! Compares the calls of the library, made by a program over pipes, with the
 //! second program's, on arbitrary tables and stores.
 
+use second::coverage::TraceCoverage;
 use second::gen::requests::requests;
-use second::host::{reply, Call, Reply, Request, NAMES};
+use second::host::{reply_watched, Call, Reply, Request, NAMES};
 use second::lines::digits;
 use second::table::FRAME_BYTES;
 use std::io::{self, BufReader, BufWriter, Read, Write};
@@ -65,7 +66,7 @@ fn compare_round(
 ) -> Result<Option<String>, String> {
     let mut found = Ok(None);
     requests(seed, round, &mut |request| {
-        let expected = reply(&request);
+        let expected = reply_watched(&request, &mut reached.traces);
         if matches!(found, Ok(None)) {
             reached.see(&request.call, &expected);
             found = served.make(&request).map_or_else(
@@ -78,12 +79,14 @@ fn compare_round(
     found
 }
 
-/// What differs: an answer, a store, an output buffer, or what no call may
-/// write to, of a refused call the store and the output buffer too.
+/// What differs: an answer, a store, an output buffer, a trace room, or what no
+/// call may write to, of a refused call all that it was lent.
 fn difference(request: &Request, expected: &Reply, given: &Given) -> Option<String> {
     let refuses = REFUSES.iter().any(|&(call, _)| call == request.call.number());
     let refused = refuses && given.reply.answer >> 16 != 0;
-    let wrote = given.reply.store != request.store || given.reply.output != lent(&request.call);
+    let wrote = given.reply.store != request.store
+        || given.reply.output != request.call.output()
+        || given.reply.trace != request.call.trace();
     if given.reply == *expected && given.lent_is_kept && !(refused && wrote) {
         return None;
     }
@@ -94,14 +97,6 @@ fn difference(request: &Request, expected: &Reply, given: &Given) -> Option<Stri
         given.reply,
         if given.lent_is_kept { "kept" } else { "changed" }
     ))
-}
-
-/// The output buffer that a call is lent.
-fn lent(call: &Call) -> &[u8] {
-    match call {
-        Call::Run { output, .. } => output,
-        _ => &[],
-    }
 }
 
 /// A request in words: the table in lines, the store, the call.
@@ -122,8 +117,64 @@ struct Served {
 
 struct Given {
     reply: Reply,
-    /// Table, values and the bytes around all that was lent are as they were.
+    /// Table, values, text and the bytes around all that was lent are as they
+    /// were.
     lent_is_kept: bool,
+}
+
+/// What of a call goes through the pipe beside its number, table and store.
+#[derive(Default)]
+struct Sent<'c> {
+    number: u64,
+    time: u32,
+    values: &'c [i32],
+    output: &'c [u8],
+    /// A trace room, or a text in its place.
+    trace: &'c [u8],
+}
+
+impl Sent<'_> {
+    fn of(call: &Call) -> Sent<'_> {
+        let (number, time, values) = match call {
+            Call::Advance { to } => (0, *to, &[][..]),
+            Call::Arrival { event, birth, values } => (*event, *birth, &values[..]),
+            Call::Run { budget, .. } | Call::RunTraced { budget, .. } => (0, *budget, &[][..]),
+            Call::FramesOf { kind } => (*kind, 0, &[][..]),
+            Call::StepsOf { action } => (*action, 0, &[][..]),
+            Call::Show { frames, .. } => (*frames, 0, &[][..]),
+            Call::Check | Call::Need | Call::Load => (0, 0, &[][..]),
+        };
+        let trace = match call {
+            Call::Show { text, .. } => text,
+            _ => call.trace(),
+        };
+        Sent { number, time, values, output: call.output(), trace }
+    }
+
+    fn value_bytes(&self) -> Vec<u8> {
+        self.values.iter().flat_map(|value| value.to_le_bytes()).collect()
+    }
+
+    /// The request as tools/serve.c reads it.
+    fn bytes(&self, request: &Request) -> Vec<u8> {
+        let numbers = [
+            request.call.number() as u64,
+            request.table.len() as u64,
+            request.store.len() as u64,
+            self.values.len() as u64,
+            self.output.len() as u64,
+            self.trace.len() as u64,
+            self.number,
+            u64::from(self.time),
+        ];
+        let mut bytes: Vec<u8> = numbers.iter().flat_map(|number| number.to_le_bytes()).collect();
+        bytes.extend(&request.table);
+        bytes.extend(request.store.iter().flat_map(|word| word.to_le_bytes()));
+        bytes.extend(self.value_bytes());
+        bytes.extend(self.output);
+        bytes.extend(self.trace);
+        bytes
+    }
 }
 
 impl Served {
@@ -139,42 +190,29 @@ impl Served {
     }
 
     fn make(&mut self, request: &Request) -> io::Result<Given> {
-        let (number, time, values, lent) = match &request.call {
-            Call::Advance { to } => (0, *to, &[][..], &[][..]),
-            Call::Arrival { event, birth, values } => (*event, *birth, &values[..], &[][..]),
-            Call::Run { budget, output } => (0, *budget, &[][..], &output[..]),
-            Call::FramesOf { kind } => (*kind, 0, &[][..], &[][..]),
-            Call::StepsOf { action } => (*action, 0, &[][..], &[][..]),
-            Call::Check | Call::Need | Call::Load => (0, 0, &[][..], &[][..]),
-        };
-        let lengths = [request.table.len(), request.store.len(), values.len(), lent.len()];
-        let mut bytes = (request.call.number() as u64).to_le_bytes().to_vec();
-        bytes.extend(lengths.iter().flat_map(|&length| (length as u64).to_le_bytes()));
-        bytes.extend(number.to_le_bytes());
-        bytes.extend(u64::from(time).to_le_bytes());
-        let values: Vec<u8> = values.iter().flat_map(|value| value.to_le_bytes()).collect();
-        bytes.extend(&request.table);
-        bytes.extend(request.store.iter().flat_map(|word| word.to_le_bytes()));
-        bytes.extend(&values);
-        bytes.extend(lent);
-        self.input.write_all(&bytes)?;
+        let call = Sent::of(&request.call);
+        self.input.write_all(&call.bytes(request))?;
         self.input.flush()?;
-
-        let mut numbers = [0; 5];
+        let mut numbers = [0; 8];
         for number in &mut numbers {
             *number = u64::from_le_bytes(self.read(8)?.try_into().expect("8 bytes"));
         }
-        let [answer, moves, stop, bytes, guarded] = numbers;
+        let [answer, moves, stop, bytes, traced, shown, line, guarded] = numbers;
         let table = self.read(request.table.len())?;
         let words = self.read(4 * request.store.len())?;
-        let values_after = self.read(values.len())?;
-        let output = self.read(lent.len())?;
+        let values = self.read(4 * call.values.len())?;
+        let output = self.read(call.output.len())?;
+        let mut trace = self.read(call.trace.len())?;
         let (words, _) = words.as_chunks::<4>();
         let store = words.iter().map(|word| u32::from_le_bytes(*word)).collect();
-        Ok(Given {
-            reply: Reply { answer, moves, stop, bytes, store, output },
-            lent_is_kept: guarded == 1 && table == request.table && values_after == values,
-        })
+        let mut lent_is_kept =
+            guarded == 1 && table == request.table && values == call.value_bytes();
+        if let Call::Show { text, .. } = &request.call {
+            // The text is lent for reading.
+            lent_is_kept &= std::mem::take(&mut trace) == *text;
+        }
+        let reply = Reply { answer, moves, stop, bytes, traced, shown, line, store, output, trace };
+        Ok(Given { reply, lent_is_kept })
     }
 
     fn read(&mut self, length: usize) -> io::Result<Vec<u8>> {
@@ -203,21 +241,27 @@ struct Reached {
     calls: u64,
     /// By call and refusal number.
     refusals: [[u64; 12]; NAMES.len()],
-    stops: [u64; 4],
+    /// By call and stop number.
+    stops: [[u64; 5]; NAMES.len()],
     /// Calls of `need` and the views that answered 0, and others.
     lengths: [[u64; 2]; NAMES.len()],
     moves: u64,
     bytes: u64,
+    traces: TraceCoverage,
 }
 
 /// The calls that answer by a refusal number, with the numbers that each gives.
-const REFUSES: [(usize, &[usize]); 5] = [
+const REFUSES: [(usize, &[usize]); 7] = [
     (0, &[0, 1, 2, 3, 4]),
     (2, &[0, 1, 2, 3, 4, 5]),
     (3, &[0, 1, 2, 3, 4, 5, 6, 7, 8]),
     (4, &[0, 1, 2, 3, 4, 5, 6, 9, 10, 11]),
     (5, &[0, 1, 2, 3, 4, 5, 6]),
+    (8, &[0, 1, 2, 3, 4, 5, 6]),
+    (9, &[0, 1, 2, 3, 4, 5]),
 ];
+/// The calls that stop by a number, with the numbers that each gives.
+const STOPS: [(usize, &[usize]); 2] = [(5, &[1, 2, 3]), (8, &[1, 2, 3, 4])];
 /// The calls that answer by a length.
 const MEASURES: [usize; 3] = [1, 6, 7];
 
@@ -230,16 +274,14 @@ impl Reached {
             return;
         }
         self.refusals[number][(reply.answer >> 16) as usize] += 1;
-        if let Call::Run { .. } = call {
-            self.stops[reply.stop as usize] += 1;
-            self.moves += reply.moves;
-            self.bytes += reply.bytes;
-        }
+        self.stops[number][reply.stop as usize] += 1;
+        self.moves += reply.moves;
+        self.bytes += reply.bytes;
     }
 
     fn print(&self) {
         for (call, numbers) in REFUSES {
-            print!("{:>9}:", NAMES[call]);
+            print!("{:>10}:", NAMES[call]);
             for &number in numbers {
                 print!("  {number}: {}", self.refusals[call][number]);
             }
@@ -247,15 +289,18 @@ impl Reached {
         }
         for call in MEASURES {
             let [empty, other] = self.lengths[call];
-            println!("{:>9}:  0: {empty}  more: {other}", NAMES[call]);
+            println!("{:>10}:  0: {empty}  more: {other}", NAMES[call]);
         }
         let all = |number: usize| self.refusals.iter().map(|row| row[number]).sum::<u64>();
         let all: Vec<String> =
             (0..12).map(|number| format!("  {number}: {}", all(number))).collect();
-        println!("  refusal:{}", all.concat());
-        let stops = (1..4).map(|stop| format!("  {stop}: {}", self.stops[stop]));
-        println!("     stop:{}", stops.collect::<String>());
-        println!("    moves:  {}, bytes of records: {}", self.moves, self.bytes);
+        println!("   refusal:{}", all.concat());
+        for (call, numbers) in STOPS {
+            let stops = numbers.iter().map(|&stop| format!("  {stop}: {}", self.stops[call][stop]));
+            println!("{:>10} stopped by:{}", NAMES[call], stops.collect::<String>());
+        }
+        println!("     moves:  {}, bytes of records: {}", self.moves, self.bytes);
+        println!("{}", self.traces);
     }
 
     /// Enough calls must reach every number that each call can give.
@@ -270,8 +315,11 @@ impl Reached {
                 missed.push(format!("{} empty or not", NAMES[call]));
             }
         }
-        let absent = (1..4).filter(|&stop| self.stops[stop] == 0);
-        missed.extend(absent.map(|stop| format!("stop {stop}")));
+        for (call, numbers) in STOPS {
+            let absent = numbers.iter().filter(|&&stop| self.stops[call][stop] == 0);
+            missed.extend(absent.map(|stop| format!("{} stopped by {stop}", NAMES[call])));
+        }
+        missed.extend(self.traces.missed());
         if self.calls >= ENOUGH_CALLS && !missed.is_empty() {
             println!("not reached: {}", missed.join(", "));
             return false;

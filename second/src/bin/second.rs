@@ -1,15 +1,18 @@
 //! The second program: a session on standard input, its answers on standard
-//! output; or a view of the table on standard input.
+//! output; or a view of its table, the traces of its runs, or what a run's trace
+//! shows.
 
-use second::lines::{digits, lines_of, part, step_program, table_of_lines};
-use second::table::FRAME_BYTES;
+use second::debugger::{show_program, trace_program};
+use second::lines::{lines_of, part, step_program, table_of_lines, text_of};
 use second::{frames_of, steps_of};
 use std::io::{self, Read, Write};
 use std::process::ExitCode;
 
 const USAGE: &str = "usage: second < SESSION
        second view kind NUMBER < SESSION
-       second view steps NUMBER < SESSION";
+       second view steps NUMBER < SESSION
+       second trace < SESSION
+       second show RUN FRAMES < SESSION";
 
 fn main() -> ExitCode {
     let words: Vec<String> = std::env::args().skip(1).collect();
@@ -17,6 +20,8 @@ fn main() -> ExitCode {
     let answer = match words[..] {
         [] => read_input().map(|input| step_program(&input, &mut ())),
         ["view", which, number] => read_input().and_then(|input| view(&input, which, number)),
+        ["trace"] => read_input().map(|input| trace_program(&input, &mut ())),
+        ["show", run, frames] => show(run, frames),
         _ => Err(USAGE.to_string()),
     };
     match answer.and_then(|output| write_output(&output)) {
@@ -48,6 +53,12 @@ fn view(input: &[u8], which: &str, number: &str) -> Result<Vec<u8>, String> {
         "steps" => steps_of(&table, number),
         _ => return Err(USAGE.to_string()),
     };
-    let line = |frame: &[u8]| [digits(frame), vec![b'\n']].concat();
-    Ok(view.bytes.chunks(FRAME_BYTES).flat_map(line).collect())
+    Ok(text_of(view.bytes))
+}
+
+/// The store after so many frames of a run, which counts from 1.
+fn show(run: &str, frames: &str) -> Result<Vec<u8>, String> {
+    let number = |word: &str| word.parse::<u64>().map_err(|_| USAGE.to_string());
+    let (run, frames) = (number(run)?, number(frames)?);
+    read_input().map(|input| show_program(&input, run, frames))
 }

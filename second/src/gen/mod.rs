@@ -2,6 +2,7 @@
 
 mod charts;
 mod damage;
+pub mod faults;
 pub mod requests;
 pub mod rng;
 mod script;

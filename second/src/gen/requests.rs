@@ -1,15 +1,22 @@
 //! Calls on arbitrary tables and stores: the session's own calls, one after
 //! the other on a store that grows out of them, and beside each a call on a
 //! copy of that store, whole, spoiled or cut, or on any words, with the table or
-//! a damaged one.
+//! a damaged one. Traces of the runs are read, whole, cut and damaged.
 
+use super::faults::{faulty_line, good_line};
 use super::rng::Rng;
 use super::session;
+use crate::calls::Checked;
 use crate::host::{Call, Request};
-use crate::lines::{self, calls_of_lines, lines_of, part, table_of_lines, OUTPUT_BYTES};
-use crate::model::check;
+use crate::lines::{self, calls_of_lines, lines_of, part, table_of_lines, text_of, OUTPUT_BYTES};
+use crate::reader::Fault;
 use crate::store::need;
 use crate::table::{kind, FRAME_BYTES};
+use crate::trace::Trace;
+
+/// A trace of more bytes is left out, and of its text so many lines are read.
+const MOST_TRACE_BYTES: usize = 20_000;
+const MOST_TEXT_LINES: usize = 1000;
 
 /// Draws the requests of a round. Each is handed to `made`, which tells the
 /// store that it left.
@@ -18,27 +25,44 @@ pub fn requests(seed: u64, round: u64, made: &mut impl FnMut(Request) -> Vec<u32
     let lines = lines_of(&session);
     let (table_lines, call_lines) = part(&lines);
     let table = table_of_lines(table_lines).unwrap_or_default();
+    let checked = Checked::of(&table);
     // Of a table that is refused, a few calls tell all.
-    let (need, most) = check(&table).map_or((30, 5), |model| (need(&model), usize::MAX));
-    let mut draw = Draw { rng: Rng::new(!seed, round), table, need };
+    let (need, most) = checked.model().map_or((30, 5), |model| (need(model), usize::MAX));
+    let latest = Scene { store: vec![0; need], text: Vec::new() };
+    let (rng, faults) = (Rng::new(!seed, round), 3 * (round % 1000) as usize);
+    let mut draw = Draw { rng, table, checked, need, latest, faults };
     let mut store = draw.any_store();
     for call in [Call::Check, Call::Need, draw.view(), draw.view(), draw.view()] {
         made(draw.request(store.clone(), call));
     }
     store = made(draw.request(store, Call::Load));
     for call in calls_of_lines(call_lines).into_iter().take(most) {
-        let call = draw.with_output(call);
+        let call = draw.with_rooms(call, &store);
+        draw.note_trace(&call, &store);
         store = made(draw.request(store, call));
         if draw.rng.chance(70) {
             made(draw.probe(&store));
         }
+        if draw.rng.chance(20) {
+            made(draw.reading());
+        }
     }
+}
+
+/// The store before a run, and the run's trace as text.
+struct Scene {
+    store: Vec<u32>,
+    text: Vec<u8>,
 }
 
 struct Draw {
     rng: Rng,
     table: Vec<u8>,
+    checked: Checked,
     need: usize,
+    latest: Scene,
+    /// How many lines were made faulty, counted on from round to round.
+    faults: usize,
 }
 
 impl Draw {
@@ -68,13 +92,135 @@ impl Draw {
         (0..bytes).map(|_| self.rng.bits() as u8).collect()
     }
 
-    fn with_output(&mut self, call: lines::Call) -> Call {
+    fn with_rooms(&mut self, call: lines::Call, store: &[u32]) -> Call {
         match call {
             lines::Call::Advance { to } => Call::Advance { to },
             lines::Call::Arrival { event, birth, values } => {
                 Call::Arrival { event: u64::from(event), birth, values }
             }
-            lines::Call::Run { budget } => Call::Run { budget, output: self.any_output() },
+            lines::Call::Run { budget } => self.any_run(budget, store),
+        }
+    }
+
+    /// A run, traced or not.
+    fn any_run(&mut self, budget: u32, store: &[u32]) -> Call {
+        let output = self.any_output();
+        if self.rng.chance(50) {
+            return Call::Run { budget, output };
+        }
+        let ends = self.trace_of(store, budget, &output).ends;
+        let trace = self.any_trace_room(&ends);
+        // So many moves as it makes anyway, so that several things hold it up.
+        let moves = u32::try_from(ends.len()).unwrap_or(budget);
+        let budget = if self.rng.chance(20) { moves } else { budget };
+        Call::RunTraced { budget, output, trace }
+    }
+
+    /// The trace of a run that has room for all of it.
+    fn trace_of(&self, store: &[u32], budget: u32, output: &[u8]) -> Trace {
+        let (mut store, mut output, mut trace) =
+            (store.to_vec(), output.to_vec(), Trace::endless());
+        self.checked.run_traced(&mut store, budget, &mut output, &mut trace, &mut ());
+        trace
+    }
+
+    /// Any bytes: as many as a trace with these ends of moves needs, as up to
+    /// one of its moves, a few less or more, or some number of its own.
+    fn any_trace_room(&mut self, ends: &[usize]) -> Vec<u8> {
+        let whole = ends.last().copied().unwrap_or(0);
+        let one = self.rng.pick_any(ends).unwrap_or(0);
+        let near = self.rng.pick(&[whole, whole, one]);
+        let little = self.rng.pick(&[1, 1, 11, 12, 13, 36]);
+        let bytes = match self.rng.below(10) {
+            0 => self.rng.pick(&[0, 0, 1, 11, 12, 23, 24, 35, 36]),
+            1 => self.rng.pick(&[239, 240, 241]),
+            2..=3 => near,
+            4 => near.saturating_sub(little),
+            5 => near + little,
+            _ => whole + self.rng.pick(&[240, 300, 1000]),
+        };
+        (0..bytes.min(MOST_TRACE_BYTES)).map(|_| self.rng.bits() as u8).collect()
+    }
+
+    /// Keeps the trace that a run has when there is room for it.
+    fn note_trace(&mut self, call: &Call, store: &[u32]) {
+        if let Call::Run { budget, output } | Call::RunTraced { budget, output, .. } = call {
+            let trace = self.trace_of(store, *budget, output).bytes;
+            if !trace.is_empty() && trace.len() <= MOST_TRACE_BYTES {
+                self.latest = Scene { store: store.to_vec(), text: text_of(&trace) };
+            }
+        }
+    }
+
+    // ------------------------------------------------------------ readings
+
+    /// A reading of the latest trace from its starting store.
+    fn reading(&mut self) -> Request {
+        let mut store = self.latest.store.clone();
+        if self.rng.chance(20) {
+            self.spoil(&mut store);
+        }
+        let call = self.any_reading();
+        self.request(store, call)
+    }
+
+    /// The latest trace, whole, cut or damaged, and a number of frames.
+    fn any_reading(&mut self) -> Call {
+        let lines = lines_of(&self.latest.text);
+        let mut lines: Vec<Vec<u8>> =
+            lines.iter().take(MOST_TEXT_LINES).map(|line| line.to_vec()).collect();
+        match self.rng.below(10) {
+            0..=2 => {}
+            3 => lines.truncate(self.rng.below(lines.len() + 1)),
+            _ => self.put_faulty(&mut lines),
+        }
+        let mut text = lines.join(&b'\n');
+        if !lines.is_empty() && self.rng.chance(80) {
+            text.push(b'\n');
+        }
+        match self.rng.below(20) {
+            0 => text.truncate(self.rng.below(text.len() + 1)),
+            1 if !text.is_empty() => {
+                let place = self.rng.below(text.len());
+                text[place] = self.rng.pick(b"0189AFaf\n\r ");
+            }
+            _ => {}
+        }
+        Call::Show { text, frames: self.any_frames(lines.len() as u64) }
+    }
+
+    /// Puts a faulty line among the lines or in the place of one; around it
+    /// stand good lines that no run has to have traced.
+    fn put_faulty(&mut self, lines: &mut Vec<Vec<u8>>) {
+        let Some(model) = self.checked.model() else {
+            return;
+        };
+        for _ in 0..self.rng.pick(&[0, 0, 1, 3]) {
+            let place = self.rng.below(lines.len() + 1);
+            lines.insert(place, good_line(&mut self.rng, model));
+        }
+        // In turn, over the rounds too, so that few rounds have all.
+        let fault = Fault::ALL[self.faults % Fault::ALL.len()];
+        self.faults += 1;
+        if let Some(line) = faulty_line(&mut self.rng, model, fault) {
+            let place = self.rng.below(lines.len() + 1);
+            let replaced = usize::from(place < lines.len() && self.rng.chance(50));
+            lines.splice(place..place + replaced, [line]);
+        }
+    }
+
+    /// None, some, all or more of so many frames, mostly no fewer than there are.
+    fn any_frames(&mut self, number: u64) -> u64 {
+        let some = self.rng.below(number as usize + 1) as u64;
+        let large = [1 << 32, u64::MAX, (1 << 63) + some];
+        match self.rng.below(12) {
+            0 => 0,
+            1..=2 => some,
+            3 => number.saturating_sub(1),
+            4 => self.rng.pick(&large),
+            5 => number + 1,
+            6..=8 => number,
+            _ => number + 1 + some,
         }
     }
 
@@ -98,7 +244,7 @@ impl Draw {
             }
         }
         let mut table = self.table.clone();
-        if self.rng.chance(15) {
+        if self.rng.chance(20) {
             self.damage(&mut table);
         }
         let call = self.any_call(&words);
@@ -119,27 +265,29 @@ impl Draw {
         };
     }
 
-    /// Changes a byte, cuts the table, or gives a frame twice.
+    /// Changes a byte, cuts the table, or gives a frame twice; the last one is
+    /// mostly a connection, which may not be repeated.
     fn damage(&mut self, table: &mut Vec<u8>) {
         if table.is_empty() {
             return;
         }
         let place = self.rng.below(table.len());
-        match self.rng.below(6) {
+        match self.rng.below(7) {
             0 => table.truncate(place),
             1 => table.truncate(place - place % FRAME_BYTES),
-            2 => {
+            case @ 2..=3 => {
+                let place = if case == 2 { place } else { table.len() - 1 };
                 let from = place - place % FRAME_BYTES;
                 let frame: Vec<u8> = table[from..].iter().take(FRAME_BYTES).copied().collect();
                 table.splice(from..from, frame);
             }
-            3 => table[place] = self.rng.bits() as u8,
+            4 => table[place] = self.rng.bits() as u8,
             _ => table[place] = self.rng.pick(&[0, 1, 2, 3, 4, 5, 9, 64, 65, 255]),
         }
     }
 
     fn any_call(&mut self, store: &[u32]) -> Call {
-        match self.rng.below(12) {
+        match self.rng.below(15) {
             0 => Call::Check,
             1 => Call::Need,
             2 => Call::Load,
@@ -149,7 +297,11 @@ impl Draw {
                 birth: self.any_time(store),
                 values: (0..self.rng.below(4)).map(|_| self.rng.value(false)).collect(),
             },
-            7..=10 => Call::Run { budget: self.rng.below(60) as u32, output: self.any_output() },
+            7..=11 => {
+                let budget = self.rng.below(60) as u32;
+                self.any_run(budget, store)
+            }
+            12..=13 => self.any_reading(),
             _ => self.view(),
         }
     }

@@ -1,8 +1,11 @@
 //! Tables and stores for the tests.
 #![allow(dead_code)] // each test file uses a part of this one
 
-use second::lines::{frame_of_line, step_program};
-use second::{check, load, run, Answer};
+use second::lines::{
+    calls_of_lines, frame_of_line, lines_of, part, step_program, table_of_lines, Call,
+    OUTPUT_BYTES, STORE_WORDS,
+};
+use second::{advance, arrival, check, load, run, Answer};
 
 /// The worked session of the document and what it must print.
 pub const WORKED: &str = include_str!("../data/worked.session");
@@ -135,4 +138,28 @@ pub fn record(element: u16, event: u16, times: [u32; 3], values: &[i32]) -> Vec<
         bytes.extend(value.to_be_bytes());
     }
     bytes
+}
+
+/// Goes through the calls of a session, as far as it goes; each run is handed
+/// over with the table, the store before it and its budget.
+pub fn for_each_run(session: &[u8], mut look: impl FnMut(&[u8], &[u32], u32)) {
+    let lines = lines_of(session);
+    let (table_lines, call_lines) = part(&lines);
+    let table = table_of_lines(table_lines).unwrap_or_default();
+    let mut store = vec![0; STORE_WORDS];
+    if load(&table, &mut store) != Answer::default() {
+        return;
+    }
+    for call in calls_of_lines(call_lines) {
+        match call {
+            Call::Advance { to } => advance(&table, &mut store, to),
+            Call::Arrival { event, birth, values } => {
+                arrival(&table, &mut store, event, birth, &values)
+            }
+            Call::Run { budget } => {
+                look(&table, &store, budget);
+                run(&table, &mut store, budget, &mut [0; OUTPUT_BYTES])
+            }
+        };
+    }
 }

@@ -1,5 +1,5 @@
 -- `line_command` meets its contract: the frame of a line of the form decides.
-use Rattle.session_lines.proofs.Reading.{frame-whole}
+use Rattle.lines.specs.laws.Frame.{frame-whole}
 use Rattle.rules_sessions.specs.Command.{commandOf, lineCommand}
 use borrow.Author.Tests.{not-true, not-false}
 use mathlib.Core.Path.{sym, ap, _∙_}

@@ -1,0 +1,14 @@
+pub mod Agreed
+pub mod Applied
+pub mod Calls
+pub mod Each
+pub mod Kept
+pub mod LastLine
+pub mod Left
+pub mod Readable
+pub mod Reading
+pub mod Right
+pub mod RoundTrip
+pub mod Same
+pub mod Theorem
+pub mod Wide

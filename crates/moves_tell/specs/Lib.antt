@@ -1,0 +1,6 @@
+pub mod Before
+pub mod Behind
+pub mod Pairs
+pub mod Telling
+pub mod Told
+pub mod laws

@@ -1,0 +1,9 @@
+pub mod Copying
+pub mod Counting
+pub mod Decimal
+pub mod Lining
+pub mod Owning
+pub mod Piecing
+pub mod Printing
+pub mod Showing
+pub mod Walking

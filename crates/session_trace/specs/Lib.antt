@@ -1,0 +1,4 @@
+pub mod Number
+pub mod Owned
+pub mod Pieces
+pub mod laws
