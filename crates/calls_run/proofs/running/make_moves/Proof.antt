@@ -1,13 +1,14 @@
--- `make_moves` meets its contract. The invariant: the run is on its way (`Going`), and so is its trace where it has one (`Tracked`).
+-- `make_moves` meets its contract. The invariant: the run is on its way (`Going`), and so is its trace where it has one (`Tracked`). Rests on every store of a
+-- run being well formed (`telling`), and on what the four questions answered (`run-goes-on`, `space-if`).
 use native.Mathlib.Omega.{arith}
 use Prim.Native.Nat.{_-_}
 use mathlib.Core.Path.{_≡_, refl, sym, _∙_}
-use lib.ListN.{length}
-use Rattle.calls_run.proofs.Going.{Going, going-start, going-more, comes-next, room-left, budget-left}
 use mathlib.Core.Logic.{⊎-elim}
+use lib.ListN.{length}
 use Rattle.moves_tell.specs.laws.Sizing.{first-room}
-use Rattle.calls_run.proofs.Tracing.{Tracked, tracked-start, tracked-more, run-done, run-goes-on, space-if, told-here, not-told-here, numbers-room, told-both}
 use Rattle.calls_run.specs.laws.Plenty.{telling}
+use Rattle.calls_run.proofs.Going.{Going, going-start, going-more, comes-next, room-left, budget-left}
+use Rattle.calls_run.proofs.Tracing.{Tracked, tracked-start, tracked-more, run-done, run-goes-on, space-if, told-here, not-told-here, numbers-room, told-both}
 use borrow.Author.Needs.{needs}
 use Rattle.calls_run.proofs.running.make_moves.Statement.{statement}
 use Rattle.calls_run.proofs.running.make_moves.Tie as tie
@@ -28,22 +29,69 @@ next-move-requires : tie.Need-next-move-requires Inv-loop μ-loop
 next-move-requires c κs = c .before .before .before .before .before .before .before .before .pre .0 .is-lawful .is-good
 
 asked-requires : tie.Need-asked-requires Inv-loop μ-loop
-asked-requires c κs = ((telling _ _ _ _ _ _ (c .before .before .before .before .before .before .before .before .before .before .pre .0) (c .before .before .before .before .before .before .before .before .before .before .pre .1) (c .before .before .before .before .before .before .before .before .before .before .pre .2) (c .before .before .before .before .before .before .before .before .before .before .pre .3) (c .before .before .before .before .before .loop .inv .0 .store) (c .before .before .before .running .ensures) (c .before .next-move .ensures .0)), (let w = c .before .before .before .before .before .loop .inv .0 in omega (arith, w .fits, w .long)), c .before .before .before .before .before .loop .inv .1 .fits)
+asked-requires c κs =
+    let start = c .before .before .before .before .before .before .before .before .before .before .pre in
+    let inv = c .before .before .before .before .before .loop .inv in (
+      telling _ _ _ _ _ _ (start .0) (start .1) (start .2) (start .3) (inv .0 .store) (c .before .before .before .running .ensures) (c .before .next-move .ensures .0),
+      omega (arith, inv .0 .fits, inv .0 .long),
+      inv .1 .fits,
+    )
 
 tell-first-requires : tie.Need-tell-first-requires Inv-loop μ-loop
-tell-first-requires c κs = ((telling _ _ _ _ _ _ (c .before .before .before .before .before .before .before .before .before .before .before .before .before .before .before .pre .0) (c .before .before .before .before .before .before .before .before .before .before .before .before .before .before .before .pre .1) (c .before .before .before .before .before .before .before .before .before .before .before .before .before .before .before .pre .2) (c .before .before .before .before .before .before .before .before .before .before .before .before .before .before .before .pre .3) (c .before .before .before .before .before .before .before .before .before .before .loop .inv .0 .store) (c .before .before .before .before .before .before .before .before .running .ensures) (c .before .before .before .before .before .before .next-move .ensures .0)), first-room _ _ _ _ _ _ (telling _ _ _ _ _ _ (c .before .before .before .before .before .before .before .before .before .before .before .before .before .before .before .pre .0) (c .before .before .before .before .before .before .before .before .before .before .before .before .before .before .before .pre .1) (c .before .before .before .before .before .before .before .before .before .before .before .before .before .before .before .pre .2) (c .before .before .before .before .before .before .before .before .before .before .before .before .before .before .before .pre .3) (c .before .before .before .before .before .before .before .before .before .before .loop .inv .0 .store) (c .before .before .before .before .before .before .before .before .running .ensures) (c .before .before .before .before .before .before .next-move .ensures .0)) _ _ ((space-if _ _ _ _ _ _ _ _ _ _ _ _ _ _ (c .before .before .before .before .before .before .before .before .before .before .loop .inv .0) (c .before .before .before .before .before .before .before .before .before .before .loop .inv .1) (comes-next _ _ _ (c .before .before .before .before .before .before .before .before .running .ensures) (c .before .before .before .before .before .before .next-move .ensures .0)) (sym (c .before .before .before .if1 .left) ∙ c .before .before .before .before .asked .ensures)) (c .before .before .if2 .taken)))
+tell-first-requires c κs =
+    let start = c .before .before .before .before .before .before .before .before .before .before .before .before .before .before .before .pre in
+    let inv = c .before .before .before .before .before .before .before .before .before .before .loop .inv in
+    let tells = telling _ _ _ _ _ _ (start .0) (start .1) (start .2) (start .3) (inv .0 .store) (c .before .before .before .before .before .before .before .before .running .ensures) (c .before .before .before .before .before .before .next-move .ensures .0) in
+    let comes = comes-next _ _ _ (c .before .before .before .before .before .before .before .before .running .ensures) (c .before .before .before .before .before .before .next-move .ensures .0) in
+    let space = space-if _ _ _ _ _ _ _ _ _ _ _ _ _ _ (inv .0) (inv .1) comes (sym (c .before .before .before .if1 .left) ∙ c .before .before .before .before .asked .ensures) in
+    (tells, first-room _ _ _ _ _ _ tells _ _ (space (c .before .before .if2 .taken)))
 
 make-told-requires : tie.Need-make-told-requires Inv-loop μ-loop
-make-told-requires c κs = let first = (⊎-elim (λ w. told-here _ _ _ _ (first-room _ _ _ _ _ _ (telling _ _ _ _ _ _ (c .before .before .before .before .before .before .before .before .before .before .before .before .before .before .before .before .pre .0) (c .before .before .before .before .before .before .before .before .before .before .before .before .before .before .before .before .pre .1) (c .before .before .before .before .before .before .before .before .before .before .before .before .before .before .before .before .pre .2) (c .before .before .before .before .before .before .before .before .before .before .before .before .before .before .before .before .pre .3) (c .before .before .before .before .before .before .before .before .before .before .before .loop .inv .0 .store) (c .before .before .before .before .before .before .before .before .before .running .ensures) (c .before .before .before .before .before .before .before .next-move .ensures .0)) _ _ ((space-if _ _ _ _ _ _ _ _ _ _ _ _ _ _ (c .before .before .before .before .before .before .before .before .before .before .before .loop .inv .0) (c .before .before .before .before .before .before .before .before .before .before .before .loop .inv .1) (comes-next _ _ _ (c .before .before .before .before .before .before .before .before .before .running .ensures) (c .before .before .before .before .before .before .before .next-move .ensures .0)) (sym (c .before .before .before .before .if1 .left) ∙ c .before .before .before .before .before .asked .ensures)) (w .0 .taken))) (w .3 .ensures) (w .6) (w .7)) (λ w. not-told-here _ _ _ _ (c .before .before .before .before .before .before .before .before .before .before .before .loop .inv .1 .fits) (w .0 .left) (w .1) (w .2)) (c .before .before .before .if2 .came)) in ((telling _ _ _ _ _ _ (c .before .before .before .before .before .before .before .before .before .before .before .before .before .before .before .before .pre .0) (c .before .before .before .before .before .before .before .before .before .before .before .before .before .before .before .before .pre .1) (c .before .before .before .before .before .before .before .before .before .before .before .before .before .before .before .before .pre .2) (c .before .before .before .before .before .before .before .before .before .before .before .before .before .before .before .before .pre .3) (c .before .before .before .before .before .before .before .before .before .before .before .loop .inv .0 .store) (c .before .before .before .before .before .before .before .before .before .running .ensures) (c .before .before .before .before .before .before .before .next-move .ensures .0)), room-left _ _ _ _ _ _ _ _ _ _ (c .before .before .before .before .before .before .before .before .before .before .before .loop .inv .0) (comes-next _ _ _ (c .before .before .before .before .before .before .before .before .before .running .ensures) (c .before .before .before .before .before .before .before .next-move .ensures .0)) (run-goes-on _ _ _ _ _ _ _ _ _ _ _ _ _ _ (c .before .before .before .before .before .before .before .before .before .before .before .loop .inv .0) (c .before .before .before .before .before .before .before .before .before .before .before .loop .inv .1) (comes-next _ _ _ (c .before .before .before .before .before .before .before .before .before .running .ensures) (c .before .before .before .before .before .before .before .next-move .ensures .0)) (sym (c .before .before .before .before .if1 .left) ∙ c .before .before .before .before .before .asked .ensures)), (let h = first .fits in h), numbers-room _ _ _ _ _ _ (telling _ _ _ _ _ _ (c .before .before .before .before .before .before .before .before .before .before .before .before .before .before .before .before .pre .0) (c .before .before .before .before .before .before .before .before .before .before .before .before .before .before .before .before .pre .1) (c .before .before .before .before .before .before .before .before .before .before .before .before .before .before .before .before .pre .2) (c .before .before .before .before .before .before .before .before .before .before .before .before .before .before .before .before .pre .3) (c .before .before .before .before .before .before .before .before .before .before .before .loop .inv .0 .store) (c .before .before .before .before .before .before .before .before .before .running .ensures) (c .before .before .before .before .before .before .before .next-move .ensures .0)) _ _ _ first (space-if _ _ _ _ _ _ _ _ _ _ _ _ _ _ (c .before .before .before .before .before .before .before .before .before .before .before .loop .inv .0) (c .before .before .before .before .before .before .before .before .before .before .before .loop .inv .1) (comes-next _ _ _ (c .before .before .before .before .before .before .before .before .before .running .ensures) (c .before .before .before .before .before .before .before .next-move .ensures .0)) (sym (c .before .before .before .before .if1 .left) ∙ c .before .before .before .before .before .asked .ensures)))
+make-told-requires c κs =
+    let start = c .before .before .before .before .before .before .before .before .before .before .before .before .before .before .before .before .pre in
+    let inv = c .before .before .before .before .before .before .before .before .before .before .before .loop .inv in
+    let tells = telling _ _ _ _ _ _ (start .0) (start .1) (start .2) (start .3) (inv .0 .store) (c .before .before .before .before .before .before .before .before .before .running .ensures) (c .before .before .before .before .before .before .before .next-move .ensures .0) in
+    let comes = comes-next _ _ _ (c .before .before .before .before .before .before .before .before .before .running .ensures) (c .before .before .before .before .before .before .before .next-move .ensures .0) in
+    let go = sym (c .before .before .before .before .if1 .left) ∙ c .before .before .before .before .before .asked .ensures in
+    let space = space-if _ _ _ _ _ _ _ _ _ _ _ _ _ _ (inv .0) (inv .1) comes go in
+    let first =
+    ⊎-elim (λ w. told-here _ _ _ _ (first-room _ _ _ _ _ _ tells _ _ (space (w .0 .taken))) (w .3 .ensures) (w .6) (w .7))
+    (λ w. not-told-here _ _ _ _ (inv .1 .fits) (w .0 .left) (w .1) (w .2)) (c .before .before .before .if2 .came) in (
+      tells,
+      room-left _ _ _ _ _ _ _ _ _ _ (inv .0) comes (run-goes-on _ _ _ _ _ _ _ _ _ _ _ _ _ _ (inv .0) (inv .1) comes go),
+      (let h = first .fits in h),
+      numbers-room _ _ _ _ _ _ tells _ _ _ first space,
+    )
 
 add-n : tie.Need-add-n Inv-loop μ-loop
-add-n c = let w = budget-left _ _ _ _ _ _ _ _ _ _ (c .before .before .before .before .before .before .before .before .before .before .before .before .before .before .before .before .before .before .loop .inv .0) (comes-next _ _ _ (c .before .before .before .before .before .before .before .before .before .before .before .before .before .before .before .before .running .ensures) (c .before .before .before .before .before .before .before .before .before .before .before .before .before .before .next-move .ensures .0)) (run-goes-on _ _ _ _ _ _ _ _ _ _ _ _ _ _ (c .before .before .before .before .before .before .before .before .before .before .before .before .before .before .before .before .before .before .loop .inv .0) (c .before .before .before .before .before .before .before .before .before .before .before .before .before .before .before .before .before .before .loop .inv .1) (comes-next _ _ _ (c .before .before .before .before .before .before .before .before .before .before .before .before .before .before .before .before .running .ensures) (c .before .before .before .before .before .before .before .before .before .before .before .before .before .before .next-move .ensures .0)) (sym (c .before .before .before .before .before .before .before .before .before .before .before .if1 .left) ∙ c .before .before .before .before .before .before .before .before .before .before .before .before .asked .ensures)) in let f = c .before .before .before .before .before .before .before .before .before .before .before .before .before .before .before .before .before .before .before .before .before .before .before .fits .budget in omega arith
+add-n c =
+    let inv = c .before .before .before .before .before .before .before .before .before .before .before .before .before .before .before .before .before .before .loop .inv in
+    let comes = comes-next _ _ _ (c .before .before .before .before .before .before .before .before .before .before .before .before .before .before .before .before .running .ensures) (c .before .before .before .before .before .before .before .before .before .before .before .before .before .before .next-move .ensures .0) in
+    let w = budget-left _ _ _ _ _ _ _ _ _ _ (inv .0) comes (run-goes-on _ _ _ _ _ _ _ _ _ _ _ _ _ _ (inv .0) (inv .1) comes (sym (c .before .before .before .before .before .before .before .before .before .before .before .if1 .left) ∙ c .before .before .before .before .before .before .before .before .before .before .before .before .asked .ensures)) in
+    let f = c .before .before .before .before .before .before .before .before .before .before .before .before .before .before .before .before .before .before .before .before .before .before .before .fits .budget in omega arith
 
 loop-less : tie.Need-loop-less Inv-loop μ-loop
-loop-less c = let w = budget-left _ _ _ _ _ _ _ _ _ _ (c .before .before .before .before .before .before .before .before .before .before .before .before .before .before .before .before .before .before .loop .inv .0) (comes-next _ _ _ (c .before .before .before .before .before .before .before .before .before .before .before .before .before .before .before .before .running .ensures) (c .before .before .before .before .before .before .before .before .before .before .before .before .before .before .next-move .ensures .0)) (run-goes-on _ _ _ _ _ _ _ _ _ _ _ _ _ _ (c .before .before .before .before .before .before .before .before .before .before .before .before .before .before .before .before .before .before .loop .inv .0) (c .before .before .before .before .before .before .before .before .before .before .before .before .before .before .before .before .before .before .loop .inv .1) (comes-next _ _ _ (c .before .before .before .before .before .before .before .before .before .before .before .before .before .before .before .before .running .ensures) (c .before .before .before .before .before .before .before .before .before .before .before .before .before .before .next-move .ensures .0)) (sym (c .before .before .before .before .before .before .before .before .before .before .before .if1 .left) ∙ c .before .before .before .before .before .before .before .before .before .before .before .before .asked .ensures)) in omega arith
+loop-less c =
+    let inv = c .before .before .before .before .before .before .before .before .before .before .before .before .before .before .before .before .before .before .loop .inv in
+    let comes = comes-next _ _ _ (c .before .before .before .before .before .before .before .before .before .before .before .before .before .before .before .before .running .ensures) (c .before .before .before .before .before .before .before .before .before .before .before .before .before .before .next-move .ensures .0) in
+    let w = budget-left _ _ _ _ _ _ _ _ _ _ (inv .0) comes (run-goes-on _ _ _ _ _ _ _ _ _ _ _ _ _ _ (inv .0) (inv .1) comes (sym (c .before .before .before .before .before .before .before .before .before .before .before .if1 .left) ∙ c .before .before .before .before .before .before .before .before .before .before .before .before .asked .ensures)) in
+    omega arith
 
 loop-again : tie.Need-loop-again Inv-loop μ-loop
-loop-again c = (going-more _ _ _ _ _ _ _ _ _ _ (c .before .before .before .before .before .before .before .before .before .before .before .before .before .before .before .before .before .before .loop .inv .0) (comes-next _ _ _ (c .before .before .before .before .before .before .before .before .before .before .before .before .before .before .before .before .running .ensures) (c .before .before .before .before .before .before .before .before .before .before .before .before .before .before .next-move .ensures .0)) (run-goes-on _ _ _ _ _ _ _ _ _ _ _ _ _ _ (c .before .before .before .before .before .before .before .before .before .before .before .before .before .before .before .before .before .before .loop .inv .0) (c .before .before .before .before .before .before .before .before .before .before .before .before .before .before .before .before .before .before .loop .inv .1) (comes-next _ _ _ (c .before .before .before .before .before .before .before .before .before .before .before .before .before .before .before .before .running .ensures) (c .before .before .before .before .before .before .before .before .before .before .before .before .before .before .next-move .ensures .0)) (sym (c .before .before .before .before .before .before .before .before .before .before .before .if1 .left) ∙ c .before .before .before .before .before .before .before .before .before .before .before .before .asked .ensures)) _ _ (c .before .before .before .before .before .before .make-told .ensures .0), tracked-more _ _ _ _ _ _ _ _ _ _ _ _ _ _ (c .before .before .before .before .before .before .before .before .before .before .before .before .before .before .before .before .before .before .loop .inv .0) (c .before .before .before .before .before .before .before .before .before .before .before .before .before .before .before .before .before .before .loop .inv .1) (comes-next _ _ _ (c .before .before .before .before .before .before .before .before .before .before .before .before .before .before .before .before .running .ensures) (c .before .before .before .before .before .before .before .before .before .before .before .before .before .before .next-move .ensures .0)) (sym (c .before .before .before .before .before .before .before .before .before .before .before .if1 .left) ∙ c .before .before .before .before .before .before .before .before .before .before .before .before .asked .ensures) (told-both _ _ _ _ _ _ (telling _ _ _ _ _ _ (c .before .before .before .before .before .before .before .before .before .before .before .before .before .before .before .before .before .before .before .before .before .before .before .pre .0) (c .before .before .before .before .before .before .before .before .before .before .before .before .before .before .before .before .before .before .before .before .before .before .before .pre .1) (c .before .before .before .before .before .before .before .before .before .before .before .before .before .before .before .before .before .before .before .before .before .before .before .pre .2) (c .before .before .before .before .before .before .before .before .before .before .before .before .before .before .before .before .before .before .before .before .before .before .before .pre .3) (c .before .before .before .before .before .before .before .before .before .before .before .before .before .before .before .before .before .before .loop .inv .0 .store) (c .before .before .before .before .before .before .before .before .before .before .before .before .before .before .before .before .running .ensures) (c .before .before .before .before .before .before .before .before .before .before .before .before .before .before .next-move .ensures .0)) _ _ _ (⊎-elim (λ w. told-here _ _ _ _ (first-room _ _ _ _ _ _ (telling _ _ _ _ _ _ (c .before .before .before .before .before .before .before .before .before .before .before .before .before .before .before .before .before .before .before .before .before .before .before .pre .0) (c .before .before .before .before .before .before .before .before .before .before .before .before .before .before .before .before .before .before .before .before .before .before .before .pre .1) (c .before .before .before .before .before .before .before .before .before .before .before .before .before .before .before .before .before .before .before .before .before .before .before .pre .2) (c .before .before .before .before .before .before .before .before .before .before .before .before .before .before .before .before .before .before .before .before .before .before .before .pre .3) (c .before .before .before .before .before .before .before .before .before .before .before .before .before .before .before .before .before .before .loop .inv .0 .store) (c .before .before .before .before .before .before .before .before .before .before .before .before .before .before .before .before .running .ensures) (c .before .before .before .before .before .before .before .before .before .before .before .before .before .before .next-move .ensures .0)) _ _ ((space-if _ _ _ _ _ _ _ _ _ _ _ _ _ _ (c .before .before .before .before .before .before .before .before .before .before .before .before .before .before .before .before .before .before .loop .inv .0) (c .before .before .before .before .before .before .before .before .before .before .before .before .before .before .before .before .before .before .loop .inv .1) (comes-next _ _ _ (c .before .before .before .before .before .before .before .before .before .before .before .before .before .before .before .before .running .ensures) (c .before .before .before .before .before .before .before .before .before .before .before .before .before .before .next-move .ensures .0)) (sym (c .before .before .before .before .before .before .before .before .before .before .before .if1 .left) ∙ c .before .before .before .before .before .before .before .before .before .before .before .before .asked .ensures)) (w .0 .taken))) (w .3 .ensures) (w .6) (w .7)) (λ w. not-told-here _ _ _ _ (c .before .before .before .before .before .before .before .before .before .before .before .before .before .before .before .before .before .before .loop .inv .1 .fits) (w .0 .left) (w .1) (w .2)) (c .before .before .before .before .before .before .before .before .before .before .if2 .came)) (c .before .before .before .before .before .before .make-told .ensures .1)), search needs)
+loop-again c =
+    let start = c .before .before .before .before .before .before .before .before .before .before .before .before .before .before .before .before .before .before .before .before .before .before .before .pre in
+    let inv = c .before .before .before .before .before .before .before .before .before .before .before .before .before .before .before .before .before .before .loop .inv in
+    let tells = telling _ _ _ _ _ _ (start .0) (start .1) (start .2) (start .3) (inv .0 .store) (c .before .before .before .before .before .before .before .before .before .before .before .before .before .before .before .before .running .ensures) (c .before .before .before .before .before .before .before .before .before .before .before .before .before .before .next-move .ensures .0) in
+    let comes = comes-next _ _ _ (c .before .before .before .before .before .before .before .before .before .before .before .before .before .before .before .before .running .ensures) (c .before .before .before .before .before .before .before .before .before .before .before .before .before .before .next-move .ensures .0) in
+    let go = sym (c .before .before .before .before .before .before .before .before .before .before .before .if1 .left) ∙ c .before .before .before .before .before .before .before .before .before .before .before .before .asked .ensures in
+    let space = space-if _ _ _ _ _ _ _ _ _ _ _ _ _ _ (inv .0) (inv .1) comes go in
+    let first =
+    ⊎-elim (λ w. told-here _ _ _ _ (first-room _ _ _ _ _ _ tells _ _ (space (w .0 .taken))) (w .3 .ensures) (w .6) (w .7))
+    (λ w. not-told-here _ _ _ _ (inv .1 .fits) (w .0 .left) (w .1) (w .2)) (c .before .before .before .before .before .before .before .before .before .before .if2 .came) in (
+      going-more _ _ _ _ _ _ _ _ _ _ (inv .0) comes (run-goes-on _ _ _ _ _ _ _ _ _ _ _ _ _ _ (inv .0) (inv .1) comes go) _ _ (c .before .before .before .before .before .before .make-told .ensures .0),
+      tracked-more _ _ _ _ _ _ _ _ _ _ _ _ _ _ (inv .0) (inv .1) comes go (told-both _ _ _ _ _ _ tells _ _ _ first (c .before .before .before .before .before .before .make-told .ensures .1)),
+      search needs,
+    )
 
 same-length : tie.Need-same-length Inv-loop μ-loop
 same-length c = search needs
@@ -55,7 +103,9 @@ same-length-3 : tie.Need-same-length-3 Inv-loop μ-loop
 same-length-3 c = search needs
 
 returns : tie.Need-returns Inv-loop μ-loop
-returns c = run-done _ _ _ _ _ _ _ _ _ _ _ _ _ _ (c .before .before .before .before .before .before .before .loop .inv .0) (c .before .before .before .before .before .before .before .loop .inv .1) (comes-next _ _ _ (c .before .before .before .before .before .running .ensures) (c .before .before .before .next-move .ensures .0)) (c .before .asked .ensures) (c .if1 .taken)
+returns c =
+    let inv = c .before .before .before .before .before .before .before .loop .inv in
+    run-done _ _ _ _ _ _ _ _ _ _ _ _ _ _ (inv .0) (inv .1) (comes-next _ _ _ (c .before .before .before .before .before .running .ensures) (c .before .before .before .next-move .ensures .0)) (c .before .asked .ensures) (c .if1 .taken)
 
 pub make-moves-spec : {M : Type 1} → statement M
 make-moves-spec =
