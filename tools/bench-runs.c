@@ -5,30 +5,13 @@
 // Prints the table's frames, the moves made and the frames told. It stops with 1 where the two runs do not leave the same store and output.
 #include <stdio.h>
 
+#include "bench-table.h"
 #include "xaluudhiga.h"
-
-typedef unsigned char byte;
 
 int strcmp(const char *, const char *);
 int memcmp(const void *, const void *, unsigned long);
 
-enum { MOST = 4096, NONE = 0xFFFF, WORDS = 8192, VALUES = 8 };
-
-static byte table[12 * MOST];
-static int frames;
-
-static void put(int kind, int flag, int a, int b, int c, int d, int e) {
-    byte *p = table + 12 * frames++;
-    const int fields[5] = {a, b, c, d, e};
-    p[0] = kind;
-    p[1] = flag;
-    for (int i = 0; i < 5; i++) {
-        p[2 + 2 * i] = fields[i] >> 8;
-        p[3 + 2 * i] = fields[i];
-    }
-}
-
-#define EACH(i, n) for (int i = 0; i < (n); i++)
+enum { WORDS = 8192, VALUES = 8 };
 
 // The table of document 01 with one event connection more, from the block's event output back to its own event input: it never stops by itself.
 static void worked(void) {

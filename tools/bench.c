@@ -5,9 +5,9 @@
 // tools/libc has what the other hosts use of the C library's headers; what is wanted besides is declared here.
 #include <stdio.h>
 
+#include "bench-table.h"
 #include "xaluudhiga.h"
 
-typedef unsigned char byte;
 typedef unsigned long word;
 
 int strcmp(const char *, const char *);
@@ -22,23 +22,7 @@ enum { PROCESS_CPU_TIME = 2 };
 
 // ---- tables: `groups` copies of one group of 512 frames, so that each size has the same work for a frame
 
-enum { GROUP = 512, MOST = 4096, NONE = 0xFFFF };
-
-static byte table[12 * MOST];
-static int frames;
-
-static void put(int kind, int flag, int a, int b, int c, int d, int e) {
-    byte *p = table + 12 * frames++;
-    const int fields[5] = {a, b, c, d, e};
-    p[0] = kind;
-    p[1] = flag;
-    for (int i = 0; i < 5; i++) {
-        p[2 + 2 * i] = fields[i] >> 8;
-        p[3 + 2 * i] = fields[i];
-    }
-}
-
-#define EACH(i, n) for (int i = 0; i < (n); i++)
+enum { GROUP = 512 };
 
 // A source with 27 events and a sink with 27, 12 variables each, 8 associations for each event: 432 of 512 are 05.
 static void mostly_05(int groups) {
