@@ -5,61 +5,18 @@
 // tools/libc has what the other hosts use of the C library's headers; what is wanted besides is declared here.
 #include <stdio.h>
 
-#include "bench-table.h"
+#include "bench-networks.h"
 #include "xaluudhiga.h"
 
 typedef unsigned long word;
 
 int strcmp(const char *, const char *);
-void *memcpy(void *, const void *, word);
-void *memset(void *, int, word);
 void exit(int);
 struct timespec {
     long seconds, nanoseconds;
 };
 int clock_gettime(int, struct timespec *);
 enum { PROCESS_CPU_TIME = 2 };
-
-// ---- tables: `groups` copies of one group of 512 frames, so that each size has the same work for a frame
-
-enum { GROUP = 512 };
-
-// A source with 27 events and a sink with 27, 12 variables each, 8 associations for each event: 432 of 512 are 05.
-static void mostly_05(int groups) {
-    EACH(g, groups) put(1, 3, 2 * g, 0, 0, 0, 0), put(1, 4, 2 * g + 1, 0, 0, 0, 0);
-    EACH(g, groups) EACH(i, 27) put(2, i, 2 * g + 1, 0, 0, 0, 0);
-    EACH(g, groups) EACH(i, 27) put(3, 0, 2 * g, 0, 0, 0, 0);
-    EACH(g, groups) EACH(i, 24) put(4, i < 12, 2 * g + (i >= 12), 0, i, 0, 0);
-    EACH(g, groups) EACH(i, 27) EACH(j, 8) {
-        put(5, 0, 27 * g + i, 24 * g + 12 + (i + j) % 12, 0, 0, 0);
-        put(5, 1, 27 * g + i, 24 * g + (i + j) % 12, 0, 0, 0);
-    }
-}
-
-// A basic block with 22 event inputs and 22 event outputs, connected with each other: 466 of 512 are 0A.
-static void mostly_0A(int groups) {
-    EACH(g, groups) put(1, 0, g, g, 0, 0, 0);
-    EACH(g, groups) EACH(i, 22) put(2, i, g, 0, 0, 0, 0);
-    EACH(g, groups) EACH(i, 22) put(3, 0, g, 0, 0, 0, 0);
-    EACH(g, groups) put(6, 0, g, 0, 0, 0, 0);
-    EACH(g, groups) EACH(i, 466) put(10, 0, 22 * g + i / 22, 22 * g + i % 22, 0, 0, 0);
-}
-
-// A basic block with 249 actions of 64 steps each, over 250 steps: 499 of 512 are 08 and 09.
-static void mostly_08_09(int groups) {
-    static const byte operands[9] = {1, 2, 2, 1, 2, 2, 2, 2, 0};
-    EACH(g, groups) put(1, 0, g, 4 * g, 0, 0, 0);
-    EACH(g, groups) put(2, 0, g, 0, 0, 0, 0);
-    EACH(g, groups) put(3, 0, g, 0, 0, 0, 0);
-    EACH(g, groups) EACH(i, 4) put(4, i < 3 ? i : 2, g, 0, i, 0, 0);
-    EACH(g, groups) EACH(i, 4) put(6, 0, g, 0, 0, 0, 0);
-    EACH(g, groups) put(7, 0, 4 * g, 4 * g + 1, g, 0, 0), put(7, 3, 4 * g + 1, 4 * g, NONE, 4 * g, 4 * g + 3);
-    EACH(g, groups) EACH(i, 249) put(8, 0, 4 * g + i % 4, 250 * g + i % 186, 64, g, 0);
-    EACH(g, groups) EACH(i, 250) {
-        int uses = operands[i % 9], first = 4 * g;
-        put(9, i % 9, first + 1 + i % 3, uses > 0 ? first + i % 4 : 0, uses > 1 ? first + i / 4 % 4 : 0, 0, 0);
-    }
-}
 
 // ---- the only fault of a table, in its last frame
 
@@ -181,23 +138,43 @@ static void times(int count, char **lines) {
 enum { ROOM = 256 * 1024, PAINT = 0xA5 };
 static byte room[ROOM] __attribute__((aligned(4096)));
 
-static word on_room(word length) {
-    register word count __asm__("rsi") = length;
-    register const byte *t __asm__("rdi") = table;
+// What the call is made of: the library's functions, as a host calls them, on the table that stands there.
+static uint32_t words[8192];
+static byte output[4096], told[4096];
+static int values; // of the source's event
+
+static word checked(void) { return xal_check(table, 12 * frames); }
+static word ran(void) {
+    uint32_t moves, stop;
+    size_t bytes;
+    return xal_run(table, 12 * frames, words, 8192, 200, output, sizeof output, &moves, &stop, &bytes);
+}
+static word ran_traced(void) {
+    uint32_t moves, stop;
+    size_t bytes, traced;
+    return xal_run_traced(table, 12 * frames, words, 8192, 200, output, sizeof output, told, sizeof told, &moves, &stop, &bytes, &traced);
+}
+static word advanced(void) { return xal_advance(table, 12 * frames, words, 8192, 10); }
+static word arrived(void) {
+    static const int32_t given[4] = {21, 2, 3, 4};
+    return xal_arrival(table, 12 * frames, words, 8192, 0, 5, given, values);
+}
+
+static word on_room(word (*call)(void)) {
     word answer;
-    __asm__ volatile("mov %%rsp, %%rbx\n mov %[top], %%rsp\n call xal_check\n mov %%rbx, %%rsp"
-                     : "=a"(answer), "+r"(t), "+r"(count)
-                     : [top] "r"(room + ROOM)
-                     : "rbx", "rcx", "rdx", "r8", "r9", "r10", "r11", "cc", "memory", "xmm0", "xmm1", "xmm2", "xmm3", "xmm4", "xmm5", "xmm6",
-                       "xmm7", "xmm8", "xmm9", "xmm10", "xmm11", "xmm12", "xmm13", "xmm14", "xmm15");
+    __asm__ volatile("mov %%rsp, %%rbx\n mov %[top], %%rsp\n call *%[call]\n mov %%rbx, %%rsp"
+                     : "=a"(answer)
+                     : [top] "r"(room + ROOM), [call] "r"(call)
+                     : "rbx", "rcx", "rdx", "rsi", "rdi", "r8", "r9", "r10", "r11", "cc", "memory", "xmm0", "xmm1", "xmm2", "xmm3", "xmm4", "xmm5",
+                       "xmm6", "xmm7", "xmm8", "xmm9", "xmm10", "xmm11", "xmm12", "xmm13", "xmm14", "xmm15");
     return answer;
 }
 
 // The bytes below the top that the call wrote to.
-static word depth(const char *name, word want) {
+static word depth(const char *name, word (*call)(void), word want) {
     word i = 0;
     memset(room, PAINT, ROOM);
-    hold(name, on_room(12 * frames), want);
+    hold(name, on_room(call), want);
     while (i < ROOM && room[i] == PAINT) i++;
     return ROOM - i;
 }
@@ -214,11 +191,25 @@ static void reverse(void) {
 
 static void stack(void) {
     word most = 0;
-    EACH(r, ROWS) most = greatest(most, depth(rows[r].name, make(&rows[r], SIZES - 1)));
+    EACH(r, ROWS) {
+        const word want = make(&rows[r], SIZES - 1);
+        most = greatest(most, depth(rows[r].name, checked, want));
+    }
     // Reversed, the event connections come first, and the first frame after them is of a lower kind.
     make(&rows[REVERSED], SIZES - 1);
     reverse();
-    most = greatest(most, depth("reversed", 2 * 65536 + 466 * (MOST / GROUP)));
+    most = greatest(most, depth("reversed", checked, 2 * 65536 + 466 * (MOST / GROUP)));
+    most = greatest(most, depth("reversed, advance", advanced, 2 * 65536 + 466 * (MOST / GROUP)));
+    EACH(rows, 2) {
+        frames = 0;
+        values = rows ? 4 : 1;
+        rows ? interfaces(25) : ring(60);
+        xal_load(table, 12 * frames, words, 8192);
+        most = greatest(most, depth("advance", advanced, 0));
+        most = greatest(most, depth("arrival", arrived, 0));
+        most = greatest(most, depth("run", ran, 0));
+        most = greatest(most, depth("traced run", ran_traced, 0));
+    }
     printf("%lu\n", most);
 }
 

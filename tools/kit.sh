@@ -4,7 +4,7 @@
 #   proving NAME WORD..        runs WORD.., a command of rt that proves the crate NAME and those below it, and shows how far it is
 #   build_program NAME         makes target/bin/NAME where it is older than a file of the crates, and sets `command` for it
 #   run_program FILE           sets `command`, the words that run a program as rt runs it
-#   build_host SOURCE NAME     makes target/hosts/NAME of a source in C and the static library
+#   build_host SOURCE NAME [SOURCE..]      makes target/hosts/NAME of sources in C and the static library
 #   run_host NAME              sets `command` for it
 #   build_second               builds the second program and its like, and sets `built`, the folder that they are in
 #
@@ -107,15 +107,20 @@ build_library() {
     [[ -e $archive && -z $(find crates crates.txt -newer "$archive" -print -quit) ]] || proving xaluudhiga rt staticlib xaluudhiga
 }
 
-link() { # SOURCE PROGRAM
-    compile -std=c99 -O2 -fPIE -c "$1" -o "$2.o" &&
-        "$own/bin/rattle-link" --target x86_64-unknown-linux-gnu --toolchain "$toolchain" -o "$2" "$2.o" "$archive"
+link() { # SOURCE PROGRAM [SOURCE..]
+    local program=$2 source
+    local -a objects=()
+    for source in "$1" "${@:3}"; do
+        objects+=("$program.${#objects[@]}.o")
+        compile -std=c99 -O2 -fPIE -c "$source" -o "${objects[-1]}" || return 1
+    done
+    "$own/bin/rattle-link" --target x86_64-unknown-linux-gnu --toolchain "$toolchain" -o "$program" "${objects[@]}" "$archive"
 }
 
 # Exit status 2, with what was said, where that fails.
 build_host() {
     build_library || exit 2
-    link "$1" "$hosts/$2" >"$hosts/$2.log" 2>&1 || { cat "$hosts/$2.log" >&2; exit 2; }
+    link "$1" "$hosts/$2" "${@:3}" >"$hosts/$2.log" 2>&1 || { cat "$hosts/$2.log" >&2; exit 2; }
 }
 
 run_host() {

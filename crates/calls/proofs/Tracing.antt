@@ -9,6 +9,9 @@ use Rattle.rules_tables.specs.declared.Judged.the-variants.{Sound, Refused as �
 use Rattle.rules_tables.specs.Judge.{judged, shapeOf}
 use Rattle.rules_tables.specs.laws.Accepted.{accepted-means}
 use Rattle.rules_traces.specs.laws.Traceable.{traceable}
+use Rattle.rules_tables.specs.Lawful.{Lawful}
+use Rattle.table_index.specs.Index.{Owners}
+use Rattle.table_index.specs.laws.Owners.{owners}
 use Rattle.rules_store.specs.Word.{nowOf}
 use Rattle.rules_calls.specs.declared.Answer.{Answer}
 use Rattle.rules_calls.specs.declared.Answer.the-variants.{Refused, Ran as «RanTo»}
@@ -71,3 +74,10 @@ module _ (T s : List ℕ) (budget : ℕ) (out tr : List ℕ) {j : Judged} (told 
 -- ---- no refusal: the table is traceable
 pub ready-traceable : (T : List ℕ) {S : Shape} {j : Judged} → j ≡ judged T → j ≡ Sound S → Traceable T S
 ready-traceable T told sound = rw (shape T told sound) (traceable T (accepted-means T (verdict T told sound)))
+
+-- and has an index
+pub ready-lawful : (T : List ℕ) {S : Shape} {j : Judged} → j ≡ judged T → j ≡ Sound S → Lawful T S
+ready-lawful T told sound = ready-traceable T told sound .is-lawful
+
+pub ready-owners : (T : List ℕ) {S : Shape} {j : Judged} → j ≡ judged T → j ≡ Sound S → Owners T S
+ready-owners T told sound = rw (shape T told sound) (owners T (accepted-means T (verdict T told sound)))

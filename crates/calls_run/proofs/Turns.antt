@@ -2,7 +2,7 @@
 use mathlib.Core.Path.{_≡_, sym, _∙_}
 use mathlib.Core.List.{List}
 use mathlib.Core.Bool.{Bool, true, false}
-use Prim.Native.Nat.{ℕ, _<_}
+use Prim.Native.Nat.{ℕ, _+_, _<_}
 use native.Mathlib.Omega.{arith}
 use lib.Dec.{eqb, ltb}
 use lib.ListN.{getD}
@@ -10,22 +10,26 @@ use borrow.Author.Tests.{eqb-true}
 use Rattle.rules_walks.specs.laws.Pick.{both-right}
 use Rattle.rules_walks.specs.laws.Choose.{choose-true, choose-false}
 use Rattle.rules_walks.specs.Count.{countIf}
+use Rattle.rules_walks.specs.laws.Count.{count-same}
 use Rattle.rules_walks.specs.First.{one, missing}
 use Rattle.rules_walks.specs.laws.First.{first-in}
 use Rattle.rules_tables.specs.Kind.{source, ofOutput}
 use Rattle.rules_tables.specs.Frame.{flagAt, fieldAt}
 use Rattle.rules_tables.specs.declared.Shape.{Shape}
-use Rattle.rules_tables.specs.Ids.{firstOutput, outputs, associationFrame}
+use Rattle.rules_tables.specs.Ids.{firstOutput, firstAssociation, outputs, associations, associationFrame}
 use Rattle.rules_store.specs.Word.{putDue, putValue}
 use Rattle.table_parts.specs.declared.Found.{Found}
 use Rattle.table_parts.specs.declared.Found.the-variants.{One, Missing}
-use Rattle.rules_tables.specs.Owned.{any, isNth, nth}
+use Rattle.rules_tables.specs.Owned.{any, belongs, rank, isNth, nth}
 use Rattle.table_parts.specs.Found.{foundOf}
 use Rattle.table_parts.specs.laws.Found.{found-one, found-missing}
 use Rattle.rules_moves.specs.Partner.{outputOwner}
 use Rattle.rules_moves.specs.laws.Partner.{own-voice}
 use Rattle.rules_moves.specs.Carry.{voice, voiceOf, speaks}
-use Rattle.moves_fire.specs.Carried.{Carried}
+use Rattle.moves_fire.specs.laws.Carrying.{speaks-belongs}
+use Rattle.table_index.specs.Leads.{Leads}
+use Rattle.table_index.specs.laws.Leads.{leads-same}
+use Rattle.table_index.specs.Index.{FollowsEvent}
 use Rattle.rules_moves.specs.Fire.{fire}
 use Rattle.rules_moves.specs.Take.{fireFound}
 use Rattle.rules_calls.specs.Calls.{dueAt, expired, expire, give, ofSource}
@@ -52,18 +56,32 @@ module _ (T : List ℕ) (S : Shape) (t el : ℕ) (s s′ : List ℕ) where
 pub output-known : (T : List ℕ) (S : Shape) (el n o : ℕ) {f : Found} → n ≡ outputs S → f ≡ foundOf (nth T (firstOutput S) n any el 0) → f ≡ One o → o < outputs S
 output-known T S el n o e p m = let h = first-in (isNth T (firstOutput S) any el 0) 0 n o (found-one (nth T (firstOutput S) n any el 0) _ o p m) in omega arith
 
-module _ (T : List ℕ) (S : Shape) (o : ℕ) (vs : List ℕ) (j : ℕ) (s s′ : List ℕ) {b : Bool} (told : b ≡ speaks T S (voice ofOutput o) j) where
-  pub give-one : {v k : ℕ} → b ≡ true → v ≡ fieldAt T (associationFrame S j) 1 → k ≡ countIf (speaks T S (voice ofOutput o)) j → s′ ≡ putValue S v (getD vs k 0) s → s′ ≡ give T S o vs j s
-  unfolding give
-  give-one q r a u = rw (choose-true _ _ _ (sym told ∙ q), ← r, ← a) u
+-- an association that speaks, and the others, which do nothing
+pub give-one : (T : List ℕ) (S : Shape) (o : ℕ) (vs : List ℕ) (j : ℕ) (s s′ : List ℕ) {v k : ℕ} → speaks T S (voice ofOutput o) j ≡ true → v ≡ fieldAt T (associationFrame S j) 1
+    → k ≡ countIf (speaks T S (voice ofOutput o)) j → s′ ≡ putValue S v (getD vs k 0) s → s′ ≡ give T S o vs j s
+unfolding give
+give-one T S o vs j s s′ q r a u = rw (choose-true _ _ _ q, ← r, ← a) u
 
-  pub give-none : b ≡ false → s′ ≡ s → s′ ≡ give T S o vs j s
-  unfolding give
-  give-none q u = rw (choose-false _ _ _ (sym told ∙ q)) u
+pub give-idle : (T : List ℕ) (S : Shape) (o : ℕ) (vs : List ℕ) (j : ℕ) → speaks T S (voice ofOutput o) j ≡ false → (s : List ℕ) → give T S o vs j s ≡ s
+unfolding give
+give-idle T S o vs j e s = choose-false _ _ _ e
+
+-- where the index leads, among the associations that speak for the event
+pub voices : (T : List ℕ) (S : Shape) (o : ℕ) {a b : ℕ} → Leads (belongs T (firstAssociation S) ofOutput o) a b (associations S) → Leads (speaks T S (voice ofOutput o)) a b (associations S)
+voices T S o l = leads-same (λ i _. sym (speaks-belongs T S ofOutput o i (omega arith))) l
+
+-- the next of an association that speaks
+pub next-voice : (T : List ℕ) (S : Shape) (o j : ℕ) {r : ℕ} → FollowsEvent T (firstAssociation S) (associations S) j r → speaks T S (voice ofOutput o) j ≡ true
+    → Leads (speaks T S (voice ofOutput o)) (j + 1) r (associations S)
+next-voice T S o j f e = voices T S o (f .under ofOutput (omega arith) .next o (sym (speaks-belongs T S ofOutput o j (omega arith)) ∙ e))
+
+-- how many speak, as their rank among the associations
+pub many-speak : (T : List ℕ) (S : Shape) (o n : ℕ) {r m : ℕ} → r ≡ rank T (firstAssociation S) ofOutput o m → m ≡ n → r ≡ countIf (speaks T S (voice ofOutput o)) n
+many-speak T S o n e q = e ∙ rw q (count-same _ _ n (λ i _. sym (speaks-belongs T S ofOutput o i (omega arith))))
 
 -- an event output of a source is no interface's
-pub source-carries : (T : List ℕ) (S : Shape) (o : ℕ) (m : List ℕ) → ofSource T S o ≡ true → Carried T S (voice ofOutput o) m → Carried T S (voiceOf T S o) m
+pub source-voice : (T : List ℕ) (S : Shape) (o : ℕ) → ofSource T S o ≡ true → voice ofOutput o ≡ voiceOf T S o
 unfolding ofSource
-source-carries T S o m e h =
+source-voice T S o e =
     let k = eqb-true (flagAt T (outputOwner T S o)) source (both-right (ltb o (outputs S)) (eqb (flagAt T (outputOwner T S o)) source) e) in
-    rw (own-voice T S o (λ z. omega arith)) h
+    sym (own-voice T S o (λ z. omega arith))

@@ -16,6 +16,7 @@ ghost use Rattle.moves_tell.specs.Told.{Told, Room};
 ghost use Rattle.rules_traces.specs.Traceable.{Traceable};
 ghost use Rattle.rules_traces.specs.Entry.{entryFrames};
 ghost use Rattle.rules_traces.specs.Trace.{firstEntries, entriesBy};
+ghost use Rattle.table_index.specs.Index.{Owners, Indexed};
 ghost use Rattle.calls_run.specs.RunMade.{askedBy, ToldIf, RanAs};
 use moves_next::fits;
 use moves_next::make;
@@ -27,6 +28,8 @@ use rules_moves::Next;
 use rules_store::Running;
 use rules_tables::Shape;
 use store_words::word::running;
+use table_index::index::SIZE;
+use table_index::index::index;
 
 // What a run tells: the moves made, the bytes written, why no more were made, and the bytes of its trace.
 pub struct Ran {
@@ -67,6 +70,7 @@ fn spent(n: u32, budget: u32) -> u32
 // After n moves, with `at` bytes of output and p bytes of trace written: why the run stops here, or 0.
 fn asked(
     t: &[u8],
+    ix: &[u16; SIZE],
     store: &[u32],
     shape: Shape,
     time: u32,
@@ -80,7 +84,7 @@ fn asked(
     n: u32,
     budget: u32,
 ) -> u32
-    requires { ⌜ Telling (now t) shape time r next (now store) × (at ≤ room) × (p ≤ space) ⌝ }
+    requires { ⌜ Telling (now t) shape time r next (now store) × (at ≤ room) × (p ≤ space) × Indexed (now t) shape (now ix) ⌝ }
     ensures { λ x. ⌜ x ≡ askedBy tracing next (sizeBy (now (t .entry)) shape time next (now (store .entry))) at room (length (entryFrames (entriesBy (now (t .entry)) shape time next (now (store .entry))))) p space n budget ⌝ }
 {
     if still(next) {
@@ -92,7 +96,7 @@ fn asked(
     if !tracing {
         return spent(n, budget);
     }
-    if !fits_trace(t, store, shape, time, r, next, space - p) {
+    if !fits_trace(t, ix, store, shape, time, r, next, space - p) {
         return 4;
     }
     spent(n, budget)
@@ -101,6 +105,7 @@ fn asked(
 // The frames of kinds 0 to 8. The compiled code copies what it hands to `tell` where this function begins: so a run without a trace has no copies.
 fn tell_first(
     t: &[u8],
+    ix: &[u16; SIZE],
     store: &[u32],
     shape: Shape,
     time: u32,
@@ -109,10 +114,10 @@ fn tell_first(
     trace: &mut [u8],
     p: usize,
 ) -> usize
-    requires { ⌜ Telling (now t) shape time r next (now store) × Room (firstEntries (now t) shape next (now store) (moveBy (now t) shape time next (now store))) p (now trace) ⌝ }
+    requires { ⌜ Telling (now t) shape time r next (now store) × Room (firstEntries (now t) shape next (now store) (moveBy (now t) shape time next (now store))) p (now trace) × Indexed (now t) shape (now ix) ⌝ }
     ensures { λ x. ⌜ Told (firstEntries (now (t .entry)) shape next (now (store .entry)) (moveBy (now (t .entry)) shape time next (now (store .entry)))) p (now (trace .entry)) (now (trace .exit)) x ⌝ }
 {
-    tell(t, store, shape, time, r, next, trace, p)
+    tell(t, ix, store, shape, time, r, next, trace, p)
 }
 
 // Kinds 9 and 10, where the move is told: the store after it has the numbers.
@@ -137,6 +142,7 @@ fn numbers_if(
 // The move that comes next is made, and its action and step numbers, the last of its frames, are told: now the store has them.
 fn make_told(
     t: &[u8],
+    ix: &[u16; SIZE],
     store: &mut [u32],
     shape: Shape,
     time: u32,
@@ -148,11 +154,11 @@ fn make_told(
     p: usize,
     tracing: bool,
 ) -> Places
-    requires { ⌜ Telling (now t) shape time r next (now store) × (at + sizeBy (now t) shape time next (now store) ≤ length (now out)) × (p ≤ length (now trace)) × (tracing ≡ true → Room (numbersBy (now t) shape next (moveBy (now t) shape time next (now store))) p (now trace)) ⌝ }
+    requires { ⌜ Telling (now t) shape time r next (now store) × (at + sizeBy (now t) shape time next (now store) ≤ length (now out)) × (p ≤ length (now trace)) × (tracing ≡ true → Room (numbersBy (now t) shape next (moveBy (now t) shape time next (now store))) p (now trace)) × Indexed (now t) shape (now ix) ⌝ }
     ensures { λ x. ⌜ Made (now (t .entry)) shape time next (now (store .entry)) (now (store .exit)) (now (out .entry)) (now (out .exit)) at (x .output)
         × ToldIf tracing (numbersBy (now (t .entry)) shape next (moveBy (now (t .entry)) shape time next (now (store .entry)))) p (now (trace .entry)) (now (trace .exit)) (x .trace) ⌝ }
 {
-    let output = make(t, store, shape, time, r, next, out, at);
+    let output = make(t, ix, store, shape, time, r, next, out, at);
     Places {
         output,
         trace: numbers_if(t, store, shape, next, trace, p, tracing),
@@ -162,6 +168,7 @@ fn make_told(
 // Turns of the loop, until there is a number to stop by. A move is told, but for its numbers, from the store before it.
 fn make_moves(
     t: &[u8],
+    ix: &[u16; SIZE],
     store: &mut [u32],
     shape: Shape,
     time: u32,
@@ -170,7 +177,7 @@ fn make_moves(
     trace: &mut [u8],
     tracing: bool,
 ) -> Ran
-    requires { ⌜ Traceable (now t) shape × Formed (now t) shape (now store) × (time ≡ nowOf (now store)) × (time < 2147483648) ⌝ }
+    requires { ⌜ Traceable (now t) shape × Formed (now t) shape (now store) × (time ≡ nowOf (now store)) × (time < 2147483648) × Indexed (now t) shape (now ix) ⌝ }
     ensures { λ x. ⌜ RanAs tracing (now (t .entry)) shape time budget (now (store .entry)) (now (out .entry)) (now (trace .entry)) x (now (store .exit)) (now (out .exit)) (now (trace .exit)) ⌝ }
 {
     let mut n: u32 = 0;
@@ -178,9 +185,10 @@ fn make_moves(
     let mut p: usize = 0;
     loop {
         let r = running(store);
-        let next = next_move(t, store, shape, r);
+        let next = next_move(t, ix, store, shape, r);
         let stop = asked(
             t,
+            ix,
             store,
             shape,
             time,
@@ -203,16 +211,30 @@ fn make_moves(
             };
         }
         if tracing {
-            p = tell_first(t, store, shape, time, r, next, trace, p);
+            p = tell_first(t, ix, store, shape, time, r, next, trace, p);
         }
-        let places = make_told(t, store, shape, time, r, next, out, at, trace, p, tracing);
+        let places = make_told(
+            t,
+            ix,
+            store,
+            shape,
+            time,
+            r,
+            next,
+            out,
+            at,
+            trace,
+            p,
+            tracing,
+        );
         at = places.output;
         p = places.trace;
         n += 1;
     }
 }
 
-// The number of moves is that of the defined machine between entry and exit store, and so are the bytes and the trace. Every store that was
+// The number of moves is that of the defined machine between entry and exit store, and so are the bytes and the trace. The index of the table is made here,
+// once for all moves of the call. Every store that was
 // accepted has its sixteen words: since that is asked here, once, the compiled loop does not ask it again for each word that it reads.
 pub fn run_moves(
     t: &[u8],
@@ -224,7 +246,7 @@ pub fn run_moves(
     trace: &mut [u8],
     tracing: bool,
 ) -> Ran
-    requires { ⌜ Traceable (now t) shape × Formed (now t) shape (now store) × (time ≡ nowOf (now store)) × (time < 2147483648) ⌝ }
+    requires { ⌜ Traceable (now t) shape × Formed (now t) shape (now store) × (time ≡ nowOf (now store)) × (time < 2147483648) × Owners (now t) shape ⌝ }
     ensures { λ x. ⌜ RanAs tracing (now (t .entry)) shape time budget (now (store .entry)) (now (out .entry)) (now (trace .entry)) x (now (store .exit)) (now (out .exit)) (now (trace .exit)) ⌝ }
 {
     if store.len() < 16 {
@@ -235,5 +257,7 @@ pub fn run_moves(
             traced: 0,
         };
     }
-    make_moves(t, store, shape, time, budget, out, trace, tracing)
+    let mut ix = [0u16; SIZE];
+    index(t, shape, &mut ix);
+    make_moves(t, &ix, store, shape, time, budget, out, trace, tracing)
 }

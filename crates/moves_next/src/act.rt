@@ -10,6 +10,7 @@ ghost use Rattle.rules_moves.specs.Take.{fireFound};
 ghost use Rattle.rules_tables.specs.Actions.{actionOf};
 ghost use Rattle.rules_moves.specs.Chart.{stateOf};
 ghost use Rattle.rules_moves.specs.Act.{oneStep, stepMove, eventOf, endMove};
+ghost use Rattle.table_index.specs.Index.{Indexed};
 use moves_chart::number_after;
 use moves_chart::state_of;
 use moves_fire::fire;
@@ -25,6 +26,7 @@ use store_words::word::value_of;
 use table_frames::frame::field;
 use table_frames::frame::flag;
 use table_frames::kind::NONE;
+use table_index::index::SIZE;
 
 // The step at frame f.
 fn one_step(t: &[u8], store: &mut [u32], shape: Shape, f: usize, age: u32)
@@ -53,22 +55,38 @@ pub fn step(t: &[u8], store: &mut [u32], shape: Shape, time: u32, r: Running, j:
 }
 
 // The event of action j, if any, is fired.
-fn fire_event(t: &[u8], store: &mut [u32], shape: Shape, j: usize, birth: u32, time: u32)
-    requires { ⌜ Good (now t) shape × (j < actionsOf shape) ⌝ }
+fn fire_event(
+    t: &[u8],
+    ix: &[u16; SIZE],
+    store: &mut [u32],
+    shape: Shape,
+    j: usize,
+    birth: u32,
+    time: u32,
+)
+    requires { ⌜ Good (now t) shape × (j < actionsOf shape) × Indexed (now t) shape (now ix) ⌝ }
     ensures { λ _. ⌜ now (store .exit) ≡ fireFound (now (t .entry)) shape (eventOf (now (t .entry)) shape j) birth time (now (store .entry)) ⌝ }
 {
     let o = field(t, action_frame(t, shape, j), 3);
     if o != NONE {
-        fire(t, store, shape, o, birth, time);
+        fire(t, ix, store, shape, o, birth, time);
     }
 }
 
 // The steps of action j are done: its event is fired, and the next action comes.
-pub fn end(t: &[u8], store: &mut [u32], shape: Shape, time: u32, r: Running, j: usize)
-    requires { ⌜ Good (now t) shape × (j < actionsOf shape) × (actionOf (now t) shape (stateOf (now store)) (r .action) ≡ one j) × (r .action < 4294967295) ⌝ }
+pub fn end(
+    t: &[u8],
+    ix: &[u16; SIZE],
+    store: &mut [u32],
+    shape: Shape,
+    time: u32,
+    r: Running,
+    j: usize,
+)
+    requires { ⌜ Good (now t) shape × (j < actionsOf shape) × (actionOf (now t) shape (stateOf (now store)) (r .action) ≡ one j) × (r .action < 4294967295) × Indexed (now t) shape (now ix) ⌝ }
     ensures { λ _. ⌜ now (store .exit) ≡ endMove (now (t .entry)) shape time (stateOf (now (store .entry))) r j (now (store .entry)) ⌝ }
 {
-    let next = number_after(t, shape, state_of(store), j, r.action);
-    fire_event(t, store, shape, j, r.birth, time);
+    let next = number_after(t, ix, shape, state_of(store), j, r.action);
+    fire_event(t, ix, store, shape, j, r.birth, time);
     put_running(store, r.entered(next));
 }

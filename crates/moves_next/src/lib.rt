@@ -14,6 +14,7 @@ ghost use Rattle.rules_tables.specs.Actions.{actionOf};
 ghost use Rattle.rules_moves.specs.Next.{eventNext, chartNext, actNext, nextBy, sizeBy};
 ghost use Rattle.moves_next.specs.Made.{Made};
 ghost use Rattle.rules_moves.specs.Ready.{Ready};
+ghost use Rattle.table_index.specs.Index.{Indexed};
 
 pub mod act;
 
@@ -33,7 +34,6 @@ use rules_store::CHARTS;
 use rules_store::IDLE;
 use rules_store::Running;
 use rules_tables::Shape;
-use store_words::actions::action_of;
 use store_words::shape::action_frame;
 use store_words::shape::input_frame;
 use store_words::word::birth;
@@ -42,6 +42,8 @@ use store_words::word::last_update;
 use store_words::word::put_running;
 use table_frames::frame::field;
 use table_frames::frame::flag;
+use table_index::actions::action_of;
+use table_index::index::SIZE;
 use table_parts::Found;
 
 // Idle: the least waiting event.
@@ -57,23 +59,23 @@ fn next_event(t: &[u8], store: &[u32], shape: Shape) -> Next
 }
 
 // Mode 1: the first enabled transition.
-fn next_transition(t: &[u8], store: &[u32], shape: Shape, live: u32) -> Next
-    requires { ⌜ Good (now t) shape ⌝ }
+fn next_transition(t: &[u8], ix: &[u16; SIZE], store: &[u32], shape: Shape, live: u32) -> Next
+    requires { ⌜ Good (now t) shape × Indexed (now t) shape (now ix) ⌝ }
     ensures { λ n. ⌜ n ≡ chartNext (transitionOf (now (t .entry)) shape (now (store .entry)) (stateOf (now (store .entry))) (currentEvent (now (store .entry))) live) ⌝ }
 {
     let event = wide(current_event(store));
-    let Found::One(j) = find_transition(t, store, shape, state_of(store), event, live) else {
+    let Found::One(j) = find_transition(t, ix, store, shape, state_of(store), event, live) else {
         return Next::Idle;
     };
     Next::Change(j)
 }
 
 // Mode 2: a step of the present action, its end, or no action.
-fn next_act(t: &[u8], store: &[u32], shape: Shape, r: Running) -> Next
-    requires { ⌜ Good (now t) shape ⌝ }
+fn next_act(t: &[u8], ix: &[u16; SIZE], store: &[u32], shape: Shape, r: Running) -> Next
+    requires { ⌜ Good (now t) shape × Indexed (now t) shape (now ix) ⌝ }
     ensures { λ n. ⌜ n ≡ actNext (now (t .entry)) shape r (actionOf (now (t .entry)) shape (stateOf (now (store .entry))) (r .action)) ⌝ }
 {
-    let Found::One(j) = action_of(t, shape, state_of(store), wide(r.action)) else {
+    let Found::One(j) = action_of(t, ix, shape, state_of(store), wide(r.action)) else {
         return Next::Back;
     };
     let f = action_frame(t, shape, j);
@@ -85,15 +87,15 @@ fn next_act(t: &[u8], store: &[u32], shape: Shape, r: Running) -> Next
 }
 
 // What comes next is decided here alone, by the mode of the running block r.
-pub fn next_move(t: &[u8], store: &[u32], shape: Shape, r: Running) -> Next
-    requires { ⌜ Good (now t) shape ⌝ }
+pub fn next_move(t: &[u8], ix: &[u16; SIZE], store: &[u32], shape: Shape, r: Running) -> Next
+    requires { ⌜ Good (now t) shape × Indexed (now t) shape (now ix) ⌝ }
     ensures { λ n. ⌜ (n ≡ nextBy (now (t .entry)) shape r (now (store .entry))) × Ready shape n ⌝ }
 {
     let mode = r.mode;
     match mode {
         IDLE => next_event(t, store, shape),
-        CHARTS => next_transition(t, store, shape, r.live),
-        _ => next_act(t, store, shape, r),
+        CHARTS => next_transition(t, ix, store, shape, r.live),
+        _ => next_act(t, ix, store, shape, r),
     }
 }
 
@@ -128,6 +130,7 @@ pub fn fits(t: &[u8], store: &[u32], shape: Shape, time: u32, n: Next, room: usi
 // Takes event input i; a sink's record goes to the output at `at`. The answer is the place after what is written.
 fn take_event(
     t: &[u8],
+    ix: &[u16; SIZE],
     store: &mut [u32],
     shape: Shape,
     time: u32,
@@ -135,19 +138,20 @@ fn take_event(
     out: &mut [u8],
     at: usize,
 ) -> usize
-    requires { ⌜ Good (now t) shape × (i < inputs shape) × (time < 2147483648) × (at + length (putOut (now t) shape i (birthOf shape (now store) i) time (now store)) ≤ length (now out)) ⌝ }
+    requires { ⌜ Good (now t) shape × (i < inputs shape) × (time < 2147483648) × (at + length (putOut (now t) shape i (birthOf shape (now store) i) time (now store)) ≤ length (now out)) × Indexed (now t) shape (now ix) ⌝ }
     ensures { λ r. ⌜ Received (now (t .entry)) shape i time (now (store .entry)) (now (store .exit)) (now (out .entry)) (now (out .exit)) at r ⌝ }
 {
     let born = birth(store, shape, i);
     let last = last_update(store, shape, i);
     let el = field(t, input_frame(t, shape, i), 0);
     let sort = flag(t, el);
-    receive(t, store, shape, sort, el, i, born, last, time, out, at)
+    receive(t, ix, store, shape, sort, el, i, born, last, time, out, at)
 }
 
 // Makes the move n that comes next, r being the running block; what it writes goes to the output at `at`. The answer is the place after it.
 pub fn make(
     t: &[u8],
+    ix: &[u16; SIZE],
     store: &mut [u32],
     shape: Shape,
     time: u32,
@@ -156,13 +160,13 @@ pub fn make(
     out: &mut [u8],
     at: usize,
 ) -> usize
-    requires { ⌜ Good (now t) shape × (r ≡ runningOf (now store)) × (n ≡ nextBy (now t) shape r (now store)) × (time < 2147483648) × (at + sizeBy (now t) shape time n (now store) ≤ length (now out)) ⌝ }
+    requires { ⌜ Good (now t) shape × (r ≡ runningOf (now store)) × (n ≡ nextBy (now t) shape r (now store)) × (time < 2147483648) × (at + sizeBy (now t) shape time n (now store) ≤ length (now out)) × Indexed (now t) shape (now ix) ⌝ }
     ensures { λ p. ⌜ Made (now (t .entry)) shape time n (now (store .entry)) (now (store .exit)) (now (out .entry)) (now (out .exit)) at p ⌝ }
 {
     match n {
-        Next::Take(i) => take_event(t, store, shape, time, i, out, at),
+        Next::Take(i) => take_event(t, ix, store, shape, time, i, out, at),
         Next::Change(j) => {
-            change(t, store, shape, r, j);
+            change(t, ix, store, shape, r, j);
             at
         }
         Next::Idle => {
@@ -174,7 +178,7 @@ pub fn make(
             at
         }
         Next::End(j) => {
-            end(t, store, shape, time, r, j);
+            end(t, ix, store, shape, time, r, j);
             at
         }
         Next::Back => {

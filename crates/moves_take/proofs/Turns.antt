@@ -9,32 +9,33 @@ use lib.Seq.{sets}
 use borrow.Author.Tests.{eq-eqb, ne-eqb}
 use Rattle.rules_walks.specs.Choose.{choose}
 use Rattle.rules_walks.specs.laws.Choose.{choose-true, choose-false}
+use Rattle.rules_walks.specs.Count.{countIf}
+use Rattle.rules_walks.specs.laws.Count.{count-same}
 use Rattle.rules_walks.specs.Walk.{upTo}
 use Rattle.rules_walks.specs.laws.Walk.{upTo-end}
 use Rattle.rules_walks.specs.First.{Sought, missing}
 use Rattle.rules_walks.specs.laws.First.{first-in}
 use Rattle.rules_numbers.specs.Word.{signed, ticksOf}
-use Rattle.rules_tables.specs.Kind.{none, basic, interface, delay, sink, ofInput}
+use Rattle.rules_tables.specs.Kind.{basic, interface, delay, sink, ofInput}
 use Rattle.rules_tables.specs.Frame.{flagAt, fieldAt}
 use Rattle.rules_tables.specs.declared.Shape.{Shape}
 use Rattle.rules_tables.specs.Good.{Good}
 use Rattle.rules_store.specs.laws.Word.{value-sampled}
-use Rattle.rules_tables.specs.Ids.{firstInput, firstVariable, inputs, variables, associations, associationFrame}
+use Rattle.rules_tables.specs.Ids.{firstInput, firstVariable, firstAssociation, inputs, variables, associations, associationFrame}
 use Rattle.rules_store.specs.Word.{value, putValue, buffer, putDue, birthOf, putInput}
 use Rattle.table_parts.specs.declared.Found.{Found}
 use Rattle.table_parts.specs.declared.Found.the-variants.{One, Missing}
-use Rattle.rules_tables.specs.Owned.{any, rank, nth, isNth}
+use Rattle.rules_tables.specs.Owned.{any, belongs, rank, nth, isNth}
 use Rattle.table_parts.specs.Found.{foundOf}
 use Rattle.table_parts.specs.laws.Found.{found-one, found-missing}
 use Rattle.rules_moves.specs.Partner.{inputOwner, partnerOutput, partnerVariable}
 use Rattle.rules_moves.specs.laws.Partner.{partner-voice}
-use Rattle.rules_moves.specs.Carry.{voice, speaks, orNone, carriedBy, voiceOf}
-use Rattle.moves_fire.specs.Carried.{Carried}
-use Rattle.moves_fire.specs.laws.Carrying.{carried-none, carried-partner}
+use Rattle.rules_moves.specs.Carry.{voice, speaks, voiceOf}
+use Rattle.moves_fire.specs.laws.Carrying.{speaks-belongs}
 use Rattle.rules_moves.specs.Fire.{fire}
 use Rattle.moves_take.specs.laws.Together.{passed-together}
 use Rattle.rules_moves.specs.Take.{sample, samples, sampled, passTo, pass, passes, fireFound, ticksIn, dtOf, isStart, startStop, wake, settle, settled, firedBy, taken}
-use Rattle.rules_moves.specs.Record.{head, values, recordOf, recordSize, putOut}
+use Rattle.rules_moves.specs.Record.{head, valueOf, values, recordOf, recordSize, putOut}
 use Rattle.moves_take.specs.Received.{Sized, Event, Received}
 use Rattle.rules_moves.specs.laws.Record.{sink-writes, others-write-none}
 use Rattle.moves_take.specs.laws.Sized.{sink-sized, others-sized}
@@ -43,38 +44,44 @@ use Rattle.moves_take.specs.laws.Sized.{sink-sized, others-sized}
 pub nth-in : (T : List ℕ) (first n g x k j : ℕ) {r : Found} → r ≡ foundOf (nth T first n g x k) → r ≡ One j → j < n
 nth-in T first n g x k j p m = let h = first-in (isNth T first g x k) 0 n j (found-one (nth T first n g x k) _ j p m) in omega arith
 
-module _ (T : List ℕ) (S : Shape) (i j : ℕ) (s s′ : List ℕ) where
-  pub sample-take : {b : Bool} {v x : ℕ} → b ≡ speaks T S (voice ofInput i) j → b ≡ true → v ≡ fieldAt T (associationFrame S j) 1 → x ≡ buffer S s v → s′ ≡ putValue S v x s → s′ ≡ sample T S i j s
-  unfolding sample
-  sample-take p q r a u = rw (choose-true _ _ _ (sym p ∙ q), ← r, ← a) u
+-- associations that speak, and the others, which do nothing
+pub sample-take : (T : List ℕ) (S : Shape) (i j : ℕ) (s s′ : List ℕ) {v x : ℕ} → speaks T S (voice ofInput i) j ≡ true → v ≡ fieldAt T (associationFrame S j) 1 → x ≡ buffer S s v → s′ ≡ putValue S v x s
+    → s′ ≡ sample T S i j s
+unfolding sample
+sample-take T S i j s s′ q r a u = rw (choose-true _ _ _ q, ← r, ← a) u
 
-  pub sample-skip : {b : Bool} → b ≡ speaks T S (voice ofInput i) j → b ≡ false → s′ ≡ s → s′ ≡ sample T S i j s
-  unfolding sample
-  sample-skip p q u = rw (choose-false _ _ _ (sym p ∙ q)) u
+pub voiced : (T : List ℕ) (S : Shape) (i j : ℕ) {b : Bool} → belongs T (firstAssociation S) ofInput i j ≡ b → speaks T S (voice ofInput i) j ≡ b
+voiced T S i j e = speaks-belongs T S ofInput i j (omega arith) ∙ e
+
+pub sample-idle : (T : List ℕ) (S : Shape) (i j : ℕ) → belongs T (firstAssociation S) ofInput i j ≡ false → (s : List ℕ) → sample T S i j s ≡ s
+unfolding sample
+sample-idle T S i j e s = choose-false _ _ _ (voiced T S i j e)
+
+pub value-idle : (T : List ℕ) (S : Shape) (s : List ℕ) (i j : ℕ) → belongs T (firstAssociation S) ofInput i j ≡ false → (l : List ℕ) → valueOf T S s i j l ≡ l
+unfolding valueOf
+value-idle T S s i j e l = choose-false _ _ _ (voiced T S i j e)
+
+pub pass-idle : (T : List ℕ) (S : Shape) (i j : ℕ) → belongs T (firstAssociation S) ofInput i j ≡ false → (s : List ℕ) → pass T S i j (sample T S i j s) ≡ s
+unfolding pass
+pass-idle T S i j e s = choose-false _ _ _ (voiced T S i j e) ∙ sample-idle T S i j e s
 
 module _ (T : List ℕ) (S : Shape) (v : ℕ) (s s′ : List ℕ) {r : Found} where
-  pub pass-none : r ≡ foundOf (partnerVariable T S v) → r ≡ Missing → s′ ≡ s → (s′ ≡ passTo S (partnerVariable T S v) v s) × (none ≡ orNone (partnerVariable T S v))
+  pub pass-none : r ≡ foundOf (partnerVariable T S v) → r ≡ Missing → s′ ≡ s → s′ ≡ passTo S (partnerVariable T S v) v s
   unfolding passTo
-  pass-none p m u = rw (found-missing (partnerVariable T S v) _ p m) (u, refl)
+  pass-none p m u = rw (found-missing (partnerVariable T S v) _ p m) u
 
-  pub pass-one : (u : ℕ) {x : ℕ} → r ≡ foundOf (partnerVariable T S v) → r ≡ One u → x ≡ value S s v → s′ ≡ putValue S u x s
-      → (s′ ≡ passTo S (partnerVariable T S v) v s) × (u ≡ orNone (partnerVariable T S v))
+  pub pass-one : (u : ℕ) {x : ℕ} → r ≡ foundOf (partnerVariable T S v) → r ≡ One u → x ≡ value S s v → s′ ≡ putValue S u x s → s′ ≡ passTo S (partnerVariable T S v) v s
   unfolding passTo
-  pass-one u p m a e = rw (found-one (partnerVariable T S v) _ u p m, ← a) (e, refl)
+  pass-one u p m a e = rw (found-one (partnerVariable T S v) _ u p m, ← a) e
 
 -- the value that is passed on is the one just sampled
 pub value-now : (S : Shape) (v : ℕ) (s s₁ : List ℕ) {x : ℕ} → x ≡ buffer S s v → s₁ ≡ putValue S v x s → x ≡ value S s₁ v
 value-now S v s s₁ e u = e ∙ rw (u, e) (sym (value-sampled S s v))
 
-module _ (T : List ℕ) (S : Shape) (i j : ℕ) {b : Bool} (told : b ≡ speaks T S (voice ofInput i) j) where
-  pub on-none : (s : List ℕ) → b ≡ false → (s ≡ pass T S i j (sample T S i j s)) × (none ≡ carriedBy T S (voice ofInput i) j)
-  unfolding pass sample choose
-  on-none s q = (rw (sym told ∙ q), carried-none T S (voice ofInput i) j (sym told ∙ q))
-
-  pub on-one : (s s₁ s′ : List ℕ) {v x r : ℕ} → b ≡ true → v ≡ fieldAt T (associationFrame S j) 1 → x ≡ buffer S s v → s₁ ≡ putValue S v x s
-      → (s′ ≡ passTo S (partnerVariable T S v) v s₁) × (r ≡ orNone (partnerVariable T S v)) → (s′ ≡ pass T S i j (sample T S i j s)) × (r ≡ carriedBy T S (voice ofInput i) j)
-  unfolding pass sample choose
-  on-one s s₁ s′ q a e u w = (rw (sym told ∙ q, ← a, ← e, ← u) (w .0), w .1 ∙ rw a (carried-partner T S i j (sym told ∙ q)))
+pub passed-on : (T : List ℕ) (S : Shape) (i j : ℕ) (s s₁ s′ : List ℕ) {v x : ℕ} → speaks T S (voice ofInput i) j ≡ true → v ≡ fieldAt T (associationFrame S j) 1 → x ≡ buffer S s v
+    → s₁ ≡ putValue S v x s → s′ ≡ passTo S (partnerVariable T S v) v s₁ → s′ ≡ pass T S i j (sample T S i j s)
+unfolding pass sample choose
+passed-on T S i j s s₁ s′ q a e u w = rw (q, ← a, ← e, ← u) w
 
 -- the walk of both is what the definition makes of the samples
 pub passed-end : (T : List ℕ) (S : Shape) (i j : ℕ) (s₀ s : List ℕ) → Good T S → s ≡ upTo (λ (k : ℕ) (x : List ℕ). pass T S i k (sample T S i k x)) j s₀ → j ≡ associations S
@@ -86,10 +93,9 @@ pub partner-in : (T : List ℕ) (S : Shape) (v u : ℕ) {r : Found} → r ≡ fo
 unfolding partnerVariable
 partner-in T S v u p m = nth-in T _ (variables S) _ _ _ u p m
 
--- the partner event speaks by event input i, so the set of what was passed to is the set of what it carries
-pub relay-carries : (T : List ℕ) (S : Shape) (i o : ℕ) (m : List ℕ) {r : Found} → i < inputs S → flagAt T (inputOwner T S i) ≡ 1 → r ≡ foundOf (partnerOutput T S i) → r ≡ One o
-    → Carried T S (voice ofInput i) m → Carried T S (voiceOf T S o) m
-relay-carries T S i o m l e p q h = rw (partner-voice T S i o l (found-one (partnerOutput T S i) _ o p q) e) h
+-- the partner event speaks by event input i
+pub relay-voice : (T : List ℕ) (S : Shape) (i o : ℕ) {r : Found} → i < inputs S → flagAt T (inputOwner T S i) ≡ 1 → r ≡ foundOf (partnerOutput T S i) → r ≡ One o → voice ofInput i ≡ voiceOf T S o
+relay-voice T S i o l e p q = sym (partner-voice T S i o l (found-one (partnerOutput T S i) _ o p q) e)
 
 module _ (T : List ℕ) (S : Shape) (i birth time : ℕ) (s s₁ s′ : List ℕ) {r : Found} where
   pub relay-none : s₁ ≡ passes T S i s → r ≡ foundOf (partnerOutput T S i) → r ≡ Missing → s′ ≡ s₁ → s′ ≡ fireFound T S (partnerOutput T S i) birth time (passes T S i s)
@@ -183,3 +189,10 @@ module _ (T : List ℕ) (S : Shape) (i time : ℕ) (s o : List ℕ) (at : ℕ) {
 
   pub element-small : Good T S → i < inputs S → el < 65536
   element-small g l = let h = g .input-element i l in let z = e .element-is in omega arith
+
+-- how many values a record has, as the rank among the associations
+pub values-many : (T : List ℕ) (S : Shape) (i : ℕ) {r m : ℕ} → r ≡ rank T (firstAssociation S) ofInput i m → m ≡ associations S → r ≡ countIf (speaks T S (voice ofInput i)) (associations S)
+values-many T S i e q = e ∙ rw q (count-same _ _ (associations S) (λ j _. sym (speaks-belongs T S ofInput i j (omega arith))))
+
+pub many-associations : (T : List ℕ) (S : Shape) {m : ℕ} → Good T S → m ≡ associations S → m ≤ 4096
+many-associations T S g e = omega (arith, g .to-associations, g .to-states, g .to-transitions, g .to-actions, g .to-steps, g .to-connections, g .to-links, g .to-end, g .few)

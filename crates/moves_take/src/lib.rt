@@ -1,5 +1,6 @@
 // Taking an event.
 ghost use mathlib.Core.Path.{_≡_};
+ghost use mathlib.Core.Bool.{true};
 ghost use Prim.Native.Nat.{_+_, _<_, _≤_};
 ghost use lib.ListN.{length};
 ghost use Rattle.numbers.specs.Bounded.{Bounded};
@@ -10,8 +11,8 @@ ghost use Rattle.rules_tables.specs.Ids.{inputs, variables, associations as «a
 ghost use Rattle.store_words.specs.Small.{Small};
 ghost use Rattle.rules_store.specs.Word.{value, putValue, buffer};
 ghost use Rattle.rules_moves.specs.Partner.{inputOwner, partnerOutput, partnerVariable};
-ghost use Rattle.rules_moves.specs.Carry.{voice, orNone, carriedBy};
-ghost use Rattle.moves_fire.specs.Carried.{Carried};
+ghost use Rattle.rules_moves.specs.Carry.{voice, speaks};
+ghost use Rattle.table_index.specs.Index.{Indexed};
 ghost use Rattle.rules_moves.specs.Take.{sample as «sampleAt», samples, passTo, pass as «passAt», passes, fireFound, dtOf, startStop, wake as «wakeOf»};
 ghost use Rattle.rules_moves.specs.Record.{putOut};
 ghost use Rattle.moves_take.specs.Received.{Event, Received};
@@ -19,12 +20,10 @@ ghost use Rattle.moves_take.specs.Received.{Event, Received};
 pub mod record;
 
 use crate::record::write_record;
-use moves_fire::carry::speaks;
-use moves_fire::fire_carrying;
+use moves_fire::fire_by;
 use moves_fire::partner::partner_output;
 use moves_fire::partner::partner_variable;
 use numbers::word::ticks;
-use numbers_bits::mark;
 use rules_moves::Voice;
 use rules_store::Running;
 use rules_tables::Shape;
@@ -42,9 +41,11 @@ use table_frames::frame::field;
 use table_frames::kind::BASIC;
 use table_frames::kind::DELAY;
 use table_frames::kind::INTERFACE;
-use table_frames::kind::NONE;
 use table_frames::kind::OF_INPUT;
 use table_frames::kind::SINK;
+use table_index::index::SIZE;
+use table_index::read::first_association;
+use table_index::read::next_association;
 use table_parts::ANY;
 use table_parts::Found;
 use table_parts::nth;
@@ -61,84 +62,75 @@ pub fn sample(store: &mut [u32], shape: Shape, v: usize) -> u32
 }
 
 // Associated inputs get value from buffer.
-fn sample_all(t: &[u8], store: &mut [u32], shape: Shape, i: usize)
-    requires { ⌜ Good (now t) shape ⌝ }
+fn sample_all(t: &[u8], ix: &[u16; SIZE], store: &mut [u32], shape: Shape, i: usize)
+    requires { ⌜ Good (now t) shape × Indexed (now t) shape (now ix) ⌝ }
     ensures { λ _. ⌜ now (store .exit) ≡ samples (now (t .entry)) shape i (now (store .entry)) ⌝ }
 {
     let n = associations(shape);
-    let w = Voice {
-        flag: OF_INPUT,
-        event: i,
-    };
-    let mut j = 0;
+    let mut j = first_association(t, ix, shape, OF_INPUT, i);
     while j < n {
-        if speaks(t, shape, w, j) {
-            sample(store, shape, field(t, association_frame(t, shape, j), 1));
-        }
-        j += 1;
+        sample(store, shape, field(t, association_frame(t, shape, j), 1));
+        j = next_association(t, ix, shape, j);
     }
 }
 
-// x, the value of input variable v, goes to its partner; the answer is the partner, or none.
-fn pass(t: &[u8], store: &mut [u32], shape: Shape, v: usize, x: u32) -> usize
-    requires { ⌜ Good (now t) shape × (v < variables shape) × (x ≡ value shape (now store) v) ⌝ }
-    ensures { λ r. ⌜ (now (store .exit) ≡ passTo shape (partnerVariable (now (t .entry)) shape v) v (now (store .entry))) × (r ≡ orNone (partnerVariable (now (t .entry)) shape v)) ⌝ }
+// x, the value of input variable v, goes to its partner, if it has one.
+fn pass(t: &[u8], ix: &[u16; SIZE], store: &mut [u32], shape: Shape, v: usize, x: u32)
+    requires { ⌜ Good (now t) shape × (v < variables shape) × (x ≡ value shape (now store) v) × Indexed (now t) shape (now ix) ⌝ }
+    ensures { λ _. ⌜ now (store .exit) ≡ passTo shape (partnerVariable (now (t .entry)) shape v) v (now (store .entry)) ⌝ }
 {
-    let Found::One(u) = partner_variable(t, shape, v) else {
-        return NONE;
+    let Found::One(u) = partner_variable(t, ix, shape, v) else {
+        return;
     };
     put_value(store, shape, u, x);
-    u
 }
 
-// Association j, if it is one of event input i: its input gets value from buffer and passes it to its partner.
-// The answer is the variable that it has the partner event carry, or none.
-fn pass_on(t: &[u8], store: &mut [u32], shape: Shape, i: usize, j: usize) -> usize
-    requires { ⌜ Good (now t) shape × (j < associationsOf shape) ⌝ }
-    ensures { λ r. ⌜ (now (store .exit) ≡ passAt (now (t .entry)) shape i j (sampleAt (now (t .entry)) shape i j (now (store .entry)))) × (r ≡ carriedBy (now (t .entry)) shape (voice ofInput i) j) ⌝ }
+// Association j of event input i: its input gets value from buffer and passes it to its partner.
+fn pass_on(t: &[u8], ix: &[u16; SIZE], store: &mut [u32], shape: Shape, i: usize, j: usize)
+    requires { ⌜ Good (now t) shape × (j < associationsOf shape) × Indexed (now t) shape (now ix) × (speaks (now t) shape (voice ofInput i) j ≡ true) ⌝ }
+    ensures { λ _. ⌜ now (store .exit) ≡ passAt (now (t .entry)) shape i j (sampleAt (now (t .entry)) shape i j (now (store .entry))) ⌝ }
 {
-    let w = Voice {
-        flag: OF_INPUT,
-        event: i,
-    };
-    if !speaks(t, shape, w, j) {
-        return NONE;
-    }
     let v = field(t, association_frame(t, shape, j), 1);
     let x = sample(store, shape, v);
-    pass(t, store, shape, v, x)
+    pass(t, ix, store, shape, v, x);
 }
 
-// Associated inputs get value from buffer and pass it to their partners, all in one walk; the answer is the set of these partners,
-// which are what the partner event carries.
-fn pass_all(t: &[u8], store: &mut [u32], shape: Shape, i: usize) -> [u32; 16]
-    requires { ⌜ Good (now t) shape ⌝ }
-    ensures { λ r. ⌜ (now (store .exit) ≡ passes (now (t .entry)) shape i (samples (now (t .entry)) shape i (now (store .entry)))) × Carried (now (t .entry)) shape (voice ofInput i) r ⌝ }
+// Associated inputs get value from buffer and pass it to their partners, all in one walk.
+fn pass_all(t: &[u8], ix: &[u16; SIZE], store: &mut [u32], shape: Shape, i: usize)
+    requires { ⌜ Good (now t) shape × Indexed (now t) shape (now ix) ⌝ }
+    ensures { λ _. ⌜ now (store .exit) ≡ passes (now (t .entry)) shape i (samples (now (t .entry)) shape i (now (store .entry))) ⌝ }
 {
     let n = associations(shape);
-    let mut m = [0u32; 16];
-    let mut j = 0;
+    let mut j = first_association(t, ix, shape, OF_INPUT, i);
     while j < n {
-        let v = pass_on(t, store, shape, i, j);
-        if v < 512 {
-            mark(&mut m, v);
-        }
-        j += 1;
+        pass_on(t, ix, store, shape, i, j);
+        j = next_association(t, ix, shape, j);
     }
-    m
 }
 
 // Interface: values to the partners first, then the partner event is fired with the same birth. It speaks by event input i itself, so
 // it carries the variables that were passed to.
-fn relay(t: &[u8], store: &mut [u32], shape: Shape, i: usize, birth: u32, time: u32)
-    requires { ⌜ Good (now t) shape × (i < inputs shape) × (flagAt (now t) (inputOwner (now t) shape i) ≡ interface) ⌝ }
+fn relay(
+    t: &[u8],
+    ix: &[u16; SIZE],
+    store: &mut [u32],
+    shape: Shape,
+    i: usize,
+    birth: u32,
+    time: u32,
+)
+    requires { ⌜ Good (now t) shape × (i < inputs shape) × (flagAt (now t) (inputOwner (now t) shape i) ≡ interface) × Indexed (now t) shape (now ix) ⌝ }
     ensures { λ _. ⌜ now (store .exit) ≡ fireFound (now (t .entry)) shape (partnerOutput (now (t .entry)) shape i) birth time (passes (now (t .entry)) shape i (samples (now (t .entry)) shape i (now (store .entry)))) ⌝ }
 {
-    let m = pass_all(t, store, shape, i);
-    let Found::One(o) = partner_output(t, shape, i) else {
+    pass_all(t, ix, store, shape, i);
+    let Found::One(o) = partner_output(t, ix, shape, i) else {
         return;
     };
-    fire_carrying(t, store, shape, o, &m, birth, time);
+    let w = Voice {
+        flag: OF_INPUT,
+        event: i,
+    };
+    fire_by(t, ix, store, shape, o, w, birth, time);
 }
 
 // DT: the delay's one variable, a negative one counts as 0.
@@ -178,6 +170,7 @@ fn wake(store: &mut [u32], el: usize, i: usize, birth: u32)
 // What an event does is decided here alone. A sink's record goes to the output at `at`; the answer is the place after what is written.
 pub fn receive(
     t: &[u8],
+    ix: &[u16; SIZE],
     store: &mut [u32],
     shape: Shape,
     sort: usize,
@@ -189,28 +182,28 @@ pub fn receive(
     out: &mut [u8],
     at: usize,
 ) -> usize
-    requires { ⌜ Good (now t) shape × (i < inputs shape) × Event (now t) shape (now store) i sort el birth last × (time < 2147483648) × (at + length (putOut (now t) shape i birth time (now store)) ≤ length (now out)) ⌝ }
+    requires { ⌜ Good (now t) shape × (i < inputs shape) × Event (now t) shape (now store) i sort el birth last × (time < 2147483648) × (at + length (putOut (now t) shape i birth time (now store)) ≤ length (now out)) × Indexed (now t) shape (now ix) ⌝ }
     ensures { λ r. ⌜ Received (now (t .entry)) shape i time (now (store .entry)) (now (store .exit)) (now (out .entry)) (now (out .exit)) at r ⌝ }
 {
     put_input(store, shape, i, 0, 0, 0);
     match sort {
         BASIC => {
-            sample_all(t, store, shape, i);
+            sample_all(t, ix, store, shape, i);
             wake(store, el, i, birth);
             at
         }
         INTERFACE => {
-            relay(t, store, shape, i, birth, time);
+            relay(t, ix, store, shape, i, birth, time);
             at
         }
         DELAY => {
-            sample_all(t, store, shape, i);
+            sample_all(t, ix, store, shape, i);
             start_stop(t, store, shape, el, i, time);
             at
         }
-        SINK => write_record(t, store, shape, el, i, birth, last, time, out, at),
+        SINK => write_record(t, ix, store, shape, el, i, birth, last, time, out, at),
         _ => {
-            sample_all(t, store, shape, i);
+            sample_all(t, ix, store, shape, i);
             at
         }
     }

@@ -10,6 +10,7 @@ ghost use Rattle.rules_moves.specs.Next.{moveBy};
 ghost use Rattle.rules_traces.specs.Trace.{firstEntries, entriesBy};
 ghost use Rattle.moves_tell.specs.Told.{Told, Room};
 ghost use Rattle.moves_tell.specs.Telling.{Telling};
+ghost use Rattle.table_index.specs.Index.{Indexed};
 ghost use lib.Dec.{eqb, leb};
 ghost use lib.ListN.{length};
 ghost use Rattle.rules_traces.specs.Entry.{entryFrames};
@@ -32,11 +33,13 @@ use rules_tables::Shape;
 use store_words::shape::action_frame;
 use store_words::shape::transition_frame;
 use table_frames::frame::field;
+use table_index::index::SIZE;
 
 // Tells the frames of kinds 0 to 8 of the move n that comes next, r being the running block; the answer is the place after them. The action and step
 // numbers, kinds 9 and 10, come last: they are told after the move, when the store has them.
 pub fn tell(
     t: &[u8],
+    ix: &[u16; SIZE],
     store: &[u32],
     shape: Shape,
     time: u32,
@@ -45,11 +48,11 @@ pub fn tell(
     trace: &mut [u8],
     at: usize,
 ) -> usize
-    requires { ⌜ Telling (now t) shape time r n (now store) × Room (firstEntries (now t) shape n (now store) (moveBy (now t) shape time n (now store))) at (now trace) ⌝ }
+    requires { ⌜ Telling (now t) shape time r n (now store) × Room (firstEntries (now t) shape n (now store) (moveBy (now t) shape time n (now store))) at (now trace) × Indexed (now t) shape (now ix) ⌝ }
     ensures { λ p. ⌜ Told (firstEntries (now (t .entry)) shape n (now (store .entry)) (moveBy (now (t .entry)) shape time n (now (store .entry)))) at (now (trace .entry)) (now (trace .exit)) p ⌝ }
 {
     match n {
-        Next::Take(i) => tell_take(t, store, shape, i, trace, at),
+        Next::Take(i) => tell_take(t, ix, store, shape, i, trace, at),
         Next::Change(j) => tell_change(t, store, shape, j, trace, at),
         Next::Idle => tell_idle(store, trace, at),
         Next::Step(j) => tell_step(t, store, shape, j, since(time, r.birth), trace, at),
@@ -60,12 +63,12 @@ pub fn tell(
 }
 
 // The bytes of the action number after transition j: none where the state that it leads to has no action.
-fn change_size(t: &[u8], shape: Shape, j: usize) -> usize
-    requires { ⌜ Good (now t) shape × (j < transitionsOf shape) ⌝ }
+fn change_size(t: &[u8], ix: &[u16; SIZE], shape: Shape, j: usize) -> usize
+    requires { ⌜ Good (now t) shape × (j < transitionsOf shape) × Indexed (now t) shape (now ix) ⌝ }
     ensures { λ z. ⌜ z ≡ choose (eqb 0 (actionNumber (now (t .entry)) shape (fieldAt (now (t .entry)) (transitionFrame shape j) 1) 1)) 0 12 ⌝ }
 {
     let to = field(t, transition_frame(t, shape, j), 1);
-    if 0 == action_number(t, shape, to, 1) {
+    if 0 == action_number(t, ix, shape, to, 1) {
         return 0;
     }
     12
@@ -83,13 +86,21 @@ fn end_size(t: &[u8], shape: Shape, j: usize) -> usize
 }
 
 // How many bytes the action and step numbers have that the move n will change.
-fn numbers_size(t: &[u8], store: &[u32], shape: Shape, time: u32, r: Running, n: Next) -> usize
-    requires { ⌜ Telling (now t) shape time r n (now store) ⌝ }
+fn numbers_size(
+    t: &[u8],
+    ix: &[u16; SIZE],
+    store: &[u32],
+    shape: Shape,
+    time: u32,
+    r: Running,
+    n: Next,
+) -> usize
+    requires { ⌜ Telling (now t) shape time r n (now store) × Indexed (now t) shape (now ix) ⌝ }
     ensures { λ z. ⌜ z ≡ length (entryFrames (numbersBy (now (t .entry)) shape n (moveBy (now (t .entry)) shape time n (now (store .entry))))) ⌝ }
 {
     match n {
         Next::Take(_) => 0,
-        Next::Change(j) => change_size(t, shape, j),
+        Next::Change(j) => change_size(t, ix, shape, j),
         Next::Idle => 0,
         Next::Step(_) => 12,
         Next::End(j) => end_size(t, shape, j),
@@ -102,18 +113,27 @@ fn numbers_size(t: &[u8], store: &[u32], shape: Shape, time: u32, r: Running, n:
 pub const MOST: usize = 240;
 
 // How many bytes the frames of the next move have: it is told into a room of its own, and its numbers are foretold.
-fn size(t: &[u8], store: &[u32], shape: Shape, time: u32, r: Running, n: Next) -> usize
-    requires { ⌜ Telling (now t) shape time r n (now store) ⌝ }
+fn size(
+    t: &[u8],
+    ix: &[u16; SIZE],
+    store: &[u32],
+    shape: Shape,
+    time: u32,
+    r: Running,
+    n: Next,
+) -> usize
+    requires { ⌜ Telling (now t) shape time r n (now store) × Indexed (now t) shape (now ix) ⌝ }
     ensures { λ z. ⌜ z ≡ length (entryFrames (entriesBy (now (t .entry)) shape time n (now (store .entry)))) ⌝ }
 {
     let mut room = [0u8; MOST];
-    let p = tell(t, store, shape, time, r, n, &mut room, 0);
-    p + numbers_size(t, store, shape, time, r, n)
+    let p = tell(t, ix, store, shape, time, r, n, &mut room, 0);
+    p + numbers_size(t, ix, store, shape, time, r, n)
 }
 
 // The frames of the next move have room in so many bytes. Where there is room for the most that a move has, how many it has is not asked.
 pub fn fits(
     t: &[u8],
+    ix: &[u16; SIZE],
     store: &[u32],
     shape: Shape,
     time: u32,
@@ -121,11 +141,11 @@ pub fn fits(
     n: Next,
     room: usize,
 ) -> bool
-    requires { ⌜ Telling (now t) shape time r n (now store) ⌝ }
+    requires { ⌜ Telling (now t) shape time r n (now store) × Indexed (now t) shape (now ix) ⌝ }
     ensures { λ x. ⌜ x ≡ leb (length (entryFrames (entriesBy (now (t .entry)) shape time n (now (store .entry))))) room ⌝ }
 {
     if MOST <= room {
         return true;
     }
-    size(t, store, shape, time, r, n) <= room
+    size(t, ix, store, shape, time, r, n) <= room
 }

@@ -11,15 +11,14 @@ ghost use Rattle.rules_traces.specs.Gather.{gather};
 ghost use Rattle.rules_traces.specs.Trace.{emittedEntry, finishedAtOnce};
 ghost use Rattle.moves_tell.specs.Before.{Associates, sampledEntry, passedFrom, passedEntries, takeEntries, takeEvents};
 ghost use Rattle.moves_tell.specs.Told.{Told, Room};
+ghost use Rattle.table_index.specs.Index.{Indexed};
 use crate::entry::happened;
 use crate::entry::put_differing;
 use crate::entry::put_entry;
 use crate::entry::tell_emitted;
-use moves_fire::carry::speaks;
 use moves_fire::partner::partner_output;
 use numbers_bits::has;
 use numbers_bits::mark;
-use rules_moves::Voice;
 use rules_tables::Shape;
 use rules_traces::Entry;
 use rules_traces::FINISHED_KIND;
@@ -41,26 +40,23 @@ use table_frames::kind::INPUT;
 use table_frames::kind::INTERFACE;
 use table_frames::kind::OF_INPUT;
 use table_frames::kind::OUTPUT;
+use table_index::index::SIZE;
+use table_index::read::first_association;
+use table_index::read::next_association;
 use table_parts::Found;
 use table_parts::nth;
 
 // The set of the variables that are associated with event input i.
-fn associated(t: &[u8], shape: Shape, i: usize) -> [u32; 16]
-    requires { ⌜ Good (now t) shape ⌝ }
+fn associated(t: &[u8], ix: &[u16; SIZE], shape: Shape, i: usize) -> [u32; 16]
+    requires { ⌜ Good (now t) shape × Indexed (now t) shape (now ix) ⌝ }
     ensures { λ r. ⌜ Associates (now (t .entry)) shape i r ⌝ }
 {
     let n = associations(shape);
-    let w = Voice {
-        flag: OF_INPUT,
-        event: i,
-    };
     let mut m = [0u32; 16];
-    let mut j = 0;
+    let mut j = first_association(t, ix, shape, OF_INPUT, i);
     while j < n {
-        if speaks(t, shape, w, j) {
-            mark(&mut m, field(t, association_frame(t, shape, j), 1));
-        }
-        j += 1;
+        mark(&mut m, field(t, association_frame(t, shape, j), 1));
+        j = next_association(t, ix, shape, j);
     }
     m
 }
@@ -178,6 +174,7 @@ fn tell_outputs(
 // Inputs, and of an interface outputs.
 fn tell_values(
     t: &[u8],
+    ix: &[u16; SIZE],
     store: &[u32],
     shape: Shape,
     i: usize,
@@ -185,10 +182,10 @@ fn tell_values(
     trace: &mut [u8],
     at: usize,
 ) -> usize
-    requires { ⌜ Traceable (now t) shape × (i < inputs shape) × (el ≡ inputOwner (now t) shape i) × Room (takeEntries (now t) shape i (now store)) at (now trace) ⌝ }
+    requires { ⌜ Traceable (now t) shape × (i < inputs shape) × (el ≡ inputOwner (now t) shape i) × Room (takeEntries (now t) shape i (now store)) at (now trace) × Indexed (now t) shape (now ix) ⌝ }
     ensures { λ r. ⌜ Told (takeEntries (now (t .entry)) shape i (now (store .entry))) at (now (trace .entry)) (now (trace .exit)) r ⌝ }
 {
-    let m = associated(t, shape, i);
+    let m = associated(t, ix, shape, i);
     let p = tell_inputs(t, store, shape, i, &m, trace, at);
     if flag(t, el) != INTERFACE {
         return p;
@@ -197,11 +194,18 @@ fn tell_values(
 }
 
 // An interface's partner event is emitted.
-fn tell_partner(t: &[u8], shape: Shape, i: usize, trace: &mut [u8], at: usize) -> usize
-    requires { ⌜ Good (now t) shape × (i < inputs shape) × Room (emittedEntry (now t) shape (partnerOutput (now t) shape i)) at (now trace) ⌝ }
+fn tell_partner(
+    t: &[u8],
+    ix: &[u16; SIZE],
+    shape: Shape,
+    i: usize,
+    trace: &mut [u8],
+    at: usize,
+) -> usize
+    requires { ⌜ Good (now t) shape × (i < inputs shape) × Room (emittedEntry (now t) shape (partnerOutput (now t) shape i)) at (now trace) × Indexed (now t) shape (now ix) ⌝ }
     ensures { λ r. ⌜ Told (emittedEntry (now (t .entry)) shape (partnerOutput (now (t .entry)) shape i)) at (now (trace .entry)) (now (trace .exit)) r ⌝ }
 {
-    let Found::One(o) = partner_output(t, shape, i) else {
+    let Found::One(o) = partner_output(t, ix, shape, i) else {
         return at;
     };
     tell_emitted(t, shape, o, trace, at)
@@ -219,8 +223,16 @@ fn tell_finished(t: &[u8], el: usize, trace: &mut [u8], at: usize) -> usize
 }
 
 // The block is started, perhaps finished at once, the event selected, and an interface's partner event emitted.
-fn tell_events(t: &[u8], shape: Shape, i: usize, el: usize, trace: &mut [u8], at: usize) -> usize
-    requires { ⌜ Good (now t) shape × (i < inputs shape) × (el ≡ inputOwner (now t) shape i) × Room (takeEvents (now t) shape i) at (now trace) ⌝ }
+fn tell_events(
+    t: &[u8],
+    ix: &[u16; SIZE],
+    shape: Shape,
+    i: usize,
+    el: usize,
+    trace: &mut [u8],
+    at: usize,
+) -> usize
+    requires { ⌜ Good (now t) shape × (i < inputs shape) × (el ≡ inputOwner (now t) shape i) × Room (takeEvents (now t) shape i) at (now trace) × Indexed (now t) shape (now ix) ⌝ }
     ensures { λ r. ⌜ Told (takeEvents (now (t .entry)) shape i) at (now (trace .entry)) (now (trace .exit)) r ⌝ }
 {
     let a = put_entry(trace, at, happened(STARTED_KIND, el, 0));
@@ -229,22 +241,23 @@ fn tell_events(t: &[u8], shape: Shape, i: usize, el: usize, trace: &mut [u8], at
     if flag(t, el) != INTERFACE {
         return c;
     }
-    tell_partner(t, shape, i, trace, c)
+    tell_partner(t, ix, shape, i, trace, c)
 }
 
 // Event input i is taken.
 pub fn tell_take(
     t: &[u8],
+    ix: &[u16; SIZE],
     store: &[u32],
     shape: Shape,
     i: usize,
     trace: &mut [u8],
     at: usize,
 ) -> usize
-    requires { ⌜ Traceable (now t) shape × (i < inputs shape) × Room (takeEntries (now t) shape i (now store) ++ takeEvents (now t) shape i) at (now trace) ⌝ }
+    requires { ⌜ Traceable (now t) shape × (i < inputs shape) × Room (takeEntries (now t) shape i (now store) ++ takeEvents (now t) shape i) at (now trace) × Indexed (now t) shape (now ix) ⌝ }
     ensures { λ r. ⌜ Told (takeEntries (now (t .entry)) shape i (now (store .entry)) ++ takeEvents (now (t .entry)) shape i) at (now (trace .entry)) (now (trace .exit)) r ⌝ }
 {
     let el = field(t, input_frame(t, shape, i), 0);
-    let p = tell_values(t, store, shape, i, el, trace, at);
-    tell_events(t, shape, i, el, trace, p)
+    let p = tell_values(t, ix, store, shape, i, el, trace, at);
+    tell_events(t, ix, shape, i, el, trace, p)
 }

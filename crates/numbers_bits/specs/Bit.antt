@@ -2,6 +2,7 @@
 use Prim.Native.Nat.{ℕ, _/_, _%_, _^_}
 use mathlib.Core.List.{List}
 use mathlib.Core.Bool.{Bool}
+use mathlib.Core.Path.{_≡_}
 use lib.Bits.{bitOr}
 use lib.Dec.{eqb}
 use lib.ListN.{getD, set}
@@ -21,3 +22,7 @@ inSet m i = bitAt (getD m (i / 32) 0) (i % 32)
 -- the set with i in it
 unfoldable pub added : List ℕ → ℕ → List ℕ
 added m i = set m (i / 32) (raised (getD m (i / 32) 0) (i % 32))
+
+-- every word is 0
+pub record Clear (m : List ℕ) : Type 0 where
+  pub zero : (p : ℕ) → _≡_ {A = ℕ} (getD m p 0) 0

@@ -2,7 +2,7 @@
 ghost use mathlib.Core.Path.{_≡_};
 ghost use Prim.Native.Nat.{_/_, _<_};
 ghost use lib.ListN.{length};
-ghost use Rattle.numbers_bits.specs.Bit.{bitAt, raised, inSet, added};
+ghost use Rattle.numbers_bits.specs.Bit.{bitAt, raised, inSet, added, Clear};
 
 // Bit j of a word.
 pub fn has_bit(w: u32, j: u32) -> bool
@@ -38,4 +38,15 @@ pub fn mark(m: &mut [u32], i: usize) -> bool
     let w = m[p];
     m[p] = with_bit(w, j);
     has_bit(w, j)
+}
+
+// Takes every number out of the set.
+pub fn clear(m: &mut [u32])
+    ensures { λ r. ⌜ (length (now (m .exit)) ≡ length (now (m .entry))) × Clear (now (m .exit)) ⌝ }
+{
+    let mut p = 0;
+    while p < m.len() {
+        m[p] = 0;
+        p += 1;
+    }
 }

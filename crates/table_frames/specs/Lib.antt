@@ -1,2 +1,5 @@
 pub mod Form
+pub mod Placed
+pub mod StartsTo
+pub mod Walked
 pub mod laws

@@ -1,1 +1,3 @@
 pub mod Form
+pub mod Placed
+pub mod Walked

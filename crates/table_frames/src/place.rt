@@ -1,41 +1,17 @@
 // Where the id-th frame of a kind stands, in any table.
 ghost use mathlib.Core.Path.{_≡_};
-ghost use Prim.Native.Nat.{_+_, _<_, _≤_};
+ghost use Prim.Native.Nat.{_<_, _≤_};
+ghost use lib.ListN.{length};
 ghost use Rattle.rules_tables.specs.Frame.{framesOf};
-ghost use Rattle.rules_tables.specs.Place.{Starts, orderAt, sortedOf, countOf, ownerOf, flagOf, ownedBy, sortIs};
+ghost use Rattle.rules_tables.specs.Place.{Starts, countOf, ownerOf, flagOf, ownedBy, sortIs};
 ghost use Rattle.rules_tables.specs.Place.{place as «placeOf», exists as «existsOf»};
+ghost use Rattle.table_frames.specs.Placed.{Placed, Located};
 use crate::frame::field;
 use crate::frame::flag;
 use crate::frame::kind;
 use crate::kind::ELEMENT;
 use crate::tally::counts;
 use crate::tally::wide_count;
-
-// The kind of frame f is not below the kind before it.
-pub fn in_order(t: &[u8], f: usize) -> bool
-    requires { ⌜ f < framesOf (now t) ⌝ }
-    ensures { λ r. ⌜ r ≡ orderAt (now (t .entry)) f ⌝ }
-{
-    if f == 0 {
-        return true;
-    }
-    kind(t, f - 1) <= kind(t, f)
-}
-
-// The kinds never fall.
-pub fn is_sorted(t: &[u8]) -> bool
-    ensures { λ r. ⌜ r ≡ sortedOf (now (t .entry)) ⌝ }
-{
-    let n = t.len() / 12;
-    let mut f = 0;
-    while f < n {
-        if !in_order(t, f) {
-            return false;
-        }
-        f += 1;
-    }
-    true
-}
 
 // Entry k: how many frames have a kind below k.
 pub fn starts(t: &[u8]) -> [usize; 13]
@@ -52,31 +28,35 @@ pub fn starts(t: &[u8]) -> [usize; 13]
     s
 }
 
-// The id-th frame of kind k in a table that may be out of order: the long way.
-fn seek(t: &[u8], k: usize, id: usize) -> usize
-    ensures { λ r. ⌜ r ≡ placeOf (now (t .entry)) k id ⌝ }
+// Puts each frame of a known kind at its kind's start and its id beyond it: a table that is out of order, in order.
+pub fn put_places(t: &[u8], at: &[usize; 13], places: &mut [u16])
+    requires { ⌜ Starts (now t) (now at) × (framesOf (now t) ≤ 4096) × (framesOf (now t) ≤ length (now places)) ⌝ }
+    ensures { λ _. ⌜ Placed (now (t .entry)) (now (places .exit)) (framesOf (now (t .entry))) × (length (now (places .exit)) ≡ length (now (places .entry))) ⌝ }
 {
     let n = t.len() / 12;
+    let mut next = *at;
     let mut f = 0;
-    let mut seen = 0;
     while f < n {
-        if kind(t, f) == k {
-            if seen == id {
-                return f;
-            }
-            seen += 1;
+        let k = kind(t, f);
+        if k < 12 {
+            places[next[k]] = f as u16;
+            next[k] += 1;
         }
         f += 1;
     }
-    0
 }
 
-// The id-th frame of kind k.
-pub fn place(t: &[u8], at: &[usize; 13], sorted: bool, k: usize, id: usize) -> usize
-    requires { ⌜ Starts (now t) (now at) × (k < 12) × (id < countOf (now t) k) × (sorted ≡ sortedOf (now t)) ⌝ }
+// The id-th frame of kind k; there are no `places` where the table is in order.
+pub fn place(t: &[u8], at: &[usize; 13], places: &[u16], k: usize, id: usize) -> usize
+    requires { ⌜ Starts (now t) (now at) × (k < 12) × (id < countOf (now t) k) × Located (now t) (now places) ⌝ }
     ensures { λ r. ⌜ (r ≡ placeOf (now (t .entry)) k id) × (r < framesOf (now (t .entry))) ⌝ }
 {
-    if sorted { at[k] + id } else { seek(t, k, id) }
+    let p = at[k] + id;
+    if places.len() == 0 {
+        p
+    } else {
+        wide_count(places[p])
+    }
 }
 
 // How many frames have kind k.
@@ -96,40 +76,40 @@ pub fn exists(t: &[u8], at: &[usize; 13], k: usize, id: usize) -> bool
 }
 
 // The element that it belongs to.
-pub fn owner(t: &[u8], at: &[usize; 13], sorted: bool, k: usize, id: usize) -> usize
-    requires { ⌜ Starts (now t) (now at) × (k < 12) × (id < countOf (now t) k) × (sorted ≡ sortedOf (now t)) ⌝ }
+pub fn owner(t: &[u8], at: &[usize; 13], places: &[u16], k: usize, id: usize) -> usize
+    requires { ⌜ Starts (now t) (now at) × (k < 12) × (id < countOf (now t) k) × Located (now t) (now places) ⌝ }
     ensures { λ r. ⌜ (r ≡ ownerOf (now (t .entry)) k id) × (r < 65536) ⌝ }
 {
-    field(t, place(t, at, sorted, k, id), 0)
+    field(t, place(t, at, places, k, id), 0)
 }
 
 // Its flag.
-pub fn flag_of(t: &[u8], at: &[usize; 13], sorted: bool, k: usize, id: usize) -> usize
-    requires { ⌜ Starts (now t) (now at) × (k < 12) × (id < countOf (now t) k) × (sorted ≡ sortedOf (now t)) ⌝ }
+pub fn flag_of(t: &[u8], at: &[usize; 13], places: &[u16], k: usize, id: usize) -> usize
+    requires { ⌜ Starts (now t) (now at) × (k < 12) × (id < countOf (now t) k) × Located (now t) (now places) ⌝ }
     ensures { λ r. ⌜ r ≡ flagOf (now (t .entry)) k id ⌝ }
 {
-    flag(t, place(t, at, sorted, k, id))
+    flag(t, place(t, at, places, k, id))
 }
 
 // It exists and is of element el.
-pub fn owned(t: &[u8], at: &[usize; 13], sorted: bool, k: usize, id: usize, el: usize) -> bool
-    requires { ⌜ Starts (now t) (now at) × (k < 12) × (sorted ≡ sortedOf (now t)) ⌝ }
+pub fn owned(t: &[u8], at: &[usize; 13], places: &[u16], k: usize, id: usize, el: usize) -> bool
+    requires { ⌜ Starts (now t) (now at) × (k < 12) × Located (now t) (now places) ⌝ }
     ensures { λ r. ⌜ r ≡ ownedBy (now (t .entry)) k id el ⌝ }
 {
     if exists(t, at, k, id) {
-        owner(t, at, sorted, k, id) == el
+        owner(t, at, places, k, id) == el
     } else {
         false
     }
 }
 
 // There is an element el, and it is of this sort.
-pub fn sort_is(t: &[u8], at: &[usize; 13], sorted: bool, el: usize, sort: usize) -> bool
-    requires { ⌜ Starts (now t) (now at) × (sorted ≡ sortedOf (now t)) ⌝ }
+pub fn sort_is(t: &[u8], at: &[usize; 13], places: &[u16], el: usize, sort: usize) -> bool
+    requires { ⌜ Starts (now t) (now at) × Located (now t) (now places) ⌝ }
     ensures { λ r. ⌜ r ≡ sortIs (now (t .entry)) el sort ⌝ }
 {
     if exists(t, at, ELEMENT, el) {
-        flag_of(t, at, sorted, ELEMENT, el) == sort
+        flag_of(t, at, places, ELEMENT, el) == sort
     } else {
         false
     }

@@ -1,40 +1,62 @@
 -- Keys by which repeats are found in one pass: two frames of a kind share what they may not exactly when their keys are equal.
--- A key is below `far` where the ids are those of a table within its limits; frames with other ids are compared one by one.
-use Prim.Native.Nat.{ℕ, _+_, _*_}
+use Prim.Native.Nat.{ℕ, _+_, _*_, _%_, _<_}
+use mathlib.Core.Path.{_≡_}
 use mathlib.Core.Bool.{Bool}
 use lib.Dec.{eqb, ltb}
 use Rattle.rules_walks.specs.Pick.{pick, both}
-use Rattle.rules_tables.specs.Kind.{element, eventInput, association, eventConnection, dataConnection}
+use Rattle.rules_tables.specs.Kind.{eventInput, eventOutput, association, eventConnection}
 use Rattle.rules_tables.specs.Frame.{Table, kindAt, flagAt, fieldAt}
+use Rattle.rules_tables.specs.Place.{countOf}
+use Rattle.rules_tables.specs.Fresh.{alike, sameEvent}
 use Rattle.rules_tables.specs.Shapes.{classAt}
 
+-- frames f and g have the same number where elements have their priority
+unfoldable pub samePriority : Table → (f g : ℕ) → Bool
+samePriority T f g = eqb (fieldAt T g 0) (fieldAt T f 0)
+
+-- the last eleven bits of that of frame g are i
+unfoldable pub filtered : Table → (i g : ℕ) → Bool
+filtered T i g = eqb (fieldAt T g 0 % 2048) i
+
+-- y beside x, where there are ys y
+unfoldable pub pairKey : (ys x y : ℕ) → ℕ
+pairKey ys x y = x * ys + y
+
+-- the key of frame f, were it of kind k: of a pair both, the second being one of ys; of a data connection the destination
+unfoldable pub keyAt : (k : ℕ) → Table → (ys f : ℕ) → ℕ
+keyAt k T ys f =
+    pick (eqb k eventInput) (pairKey ys (fieldAt T f 0) (flagAt T f))
+    (pick (eqb k association) (pairKey ys (fieldAt T f 1) (fieldAt T f 0))
+    (pick (eqb k eventConnection) (pairKey ys (fieldAt T f 0) (fieldAt T f 1)) (fieldAt T f 1)))
+
+-- frame g is of kind k and has key b + i: number i of the keys from b on
+unfoldable pub keyed : (k : ℕ) → Table → (ys b i g : ℕ) → Bool
+keyed k T ys b i g = both (eqb (kindAt T g) k) (eqb (keyAt k T ys g) (b + i))
+
+-- of the first n frames, two of kind k share what they may not exactly when their keys are equal
+pub record Telling (k : ℕ) (T : Table) (ys n : ℕ) : Type 0 where
+  pub same : (f g : ℕ) → f < n → g < n → kindAt T f ≡ k → kindAt T g ≡ k → alike k T f g ≡ eqb (keyAt k T ys g) (keyAt k T ys f)
+
+-- and those of kind k have so many keys
+pub record Spanning (k : ℕ) (T : Table) (ys keys n : ℕ) : Type 0 where
+  pub below : (f : ℕ) → f < n → kindAt T f ≡ k → keyAt k T ys f < keys
+
+-- the event of association f among all events: the outputs behind the inputs
+unfoldable pub slotOf : Table → (inputs f : ℕ) → ℕ
+slotOf T inputs f = pick (eqb (flagAt T f) 0) (fieldAt T f 0) (inputs + fieldAt T f 0)
+
+-- frame g is an association of event b + i
+unfoldable pub slotted : Table → (inputs b i g : ℕ) → Bool
+slotted T inputs b i g = both (eqb (kindAt T g) association) (eqb (slotOf T inputs g) (b + i))
+
+-- of the first n frames, two associations are of one event exactly when it is the same among all; there are `inputs` event inputs
+pub record Slotting (T : Table) (inputs n : ℕ) : Type 0 where
+  pub same : (f g : ℕ) → f < n → g < n → kindAt T f ≡ association → kindAt T g ≡ association → sameEvent T f g ≡ eqb (slotOf T inputs g) (slotOf T inputs f)
+  pub below : (f : ℕ) → f < n → kindAt T f ≡ association → slotOf T inputs f < inputs + countOf T eventOutput
+
+-- no key: of frames that are no part, or of an element that no table within its limits has
 abbrev pub far : ℕ
-far = 131072
-
--- y beside x, where there are so many x, and 256 y
-unfoldable pub pairKey : (xs x y : ℕ) → ℕ
-pairKey xs x y = pick (both (ltb x xs) (ltb y 256)) (256 * x + y) far
-
--- a variable that a data connection runs to
-unfoldable pub destinationKey : (v : ℕ) → ℕ
-destinationKey v = pick (ltb v 512) v far
-
--- the key of frame f, were it of kind k; kinds that may share everything have none
-unfoldable pub keyAt : (k : ℕ) → Table → (f : ℕ) → ℕ
-keyAt k T f =
-    pick (eqb k element) (fieldAt T f 0)
-    (pick (eqb k eventInput) (pairKey 64 (fieldAt T f 0) (flagAt T f))
-    (pick (eqb k association) (pairKey 512 (fieldAt T f 1) (fieldAt T f 0))
-    (pick (eqb k eventConnection) (pairKey 256 (fieldAt T f 0) (fieldAt T f 1))
-    (pick (eqb k dataConnection) (destinationKey (fieldAt T f 1)) far))))
-
--- frame g is of kind k and has key i
-unfoldable pub keyed : (k : ℕ) → Table → (i g : ℕ) → Bool
-keyed k T i g = both (eqb (kindAt T g) k) (eqb (keyAt k T g) i)
-
--- the key of an association is its event under its flag
-unfoldable pub eventKey : Table → (f : ℕ) → ℕ
-eventKey T f = pick (eqb (kindAt T f) association) (pairKey 2 (flagAt T f) (fieldAt T f 0)) far
+far = 384
 
 -- the key of a part is its element and its class
 unfoldable pub partKey : Table → (f : ℕ) → ℕ

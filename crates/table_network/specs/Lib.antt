@@ -1,3 +1,5 @@
-pub mod Alike
+pub mod Counted
 pub mod Keys
+pub mod Known
+pub mod Windows
 pub mod laws

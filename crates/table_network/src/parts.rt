@@ -1,14 +1,18 @@
 // The parts of elements, counted in one pass.
 ghost use mathlib.Core.Path.{_≡_};
+ghost use mathlib.Core.Bool.{true};
 ghost use Prim.Native.Nat.{_+_, _<_, _≤_, min};
+ghost use Rattle.rules_walks.specs.All.{allTo};
 ghost use Rattle.rules_walks.specs.Tally.{Tallied};
 ghost use Rattle.rules_tables.specs.Frame.{framesOf};
+ghost use Rattle.rules_tables.specs.Place.{Starts};
+ghost use Rattle.rules_tables.specs.Form.{formOk};
 ghost use Rattle.rules_tables.specs.Shapes.{classAt, parts as «partsOf»};
 ghost use Rattle.table_network.specs.Keys.{partKey};
-use crate::fresh::FAR;
 use table_frames::frame::field;
 use table_frames::frame::flag;
 use table_frames::frame::kind;
+use table_frames::kind::ASSOCIATION;
 use table_frames::kind::EVENT_INPUT;
 use table_frames::kind::EVENT_OUTPUT;
 use table_frames::kind::INTERNAL;
@@ -30,6 +34,9 @@ pub const INTERNALS: usize = 4;
 pub const UNKNOWNS: usize = 5;
 
 const NO_PART: usize = 6;
+
+// No key: of frames that are no part, or of an element that no table within its limits has.
+const FAR: usize = 384;
 
 // The class of part that a frame is.
 fn class(t: &[u8], f: usize) -> usize
@@ -67,20 +74,30 @@ fn part_key(t: &[u8], f: usize) -> usize
     FAR
 }
 
-// Entry 6 el + c: how many parts of class c element el has.
-pub fn parts(t: &[u8]) -> [u16; 384]
-    requires { ⌜ framesOf (now t) ≤ 4096 ⌝ }
-    ensures { λ r. ⌜ Tallied (partKey (now (t .entry))) 384 r (framesOf (now (t .entry))) ⌝ }
+// Counts the frames from lo to hi by the keys of their parts; those before lo are counted.
+fn tally_parts(t: &[u8], m: &mut [u16], lo: usize, hi: usize)
+    requires { ⌜ (lo ≤ hi) × (hi ≤ framesOf (now t)) × (framesOf (now t) ≤ 4096) × Tallied (partKey (now t)) 384 (now m) lo ⌝ }
+    ensures { λ r. ⌜ Tallied (partKey (now (t .entry))) 384 (now (m .exit)) hi ⌝ }
 {
-    let n = t.len() / 12;
-    let mut m = [0u16; 384];
-    let mut f = 0;
-    while f < n {
+    let mut f = lo;
+    while f < hi {
         let i = part_key(t, f);
-        plus(&mut m, i);
+        plus(m, i);
         f += 1;
     }
-    m
+}
+
+// Entry 6 el + c, 0 before: how many parts of class c element el has. Where all frames have their form, and so are in order, parts are of three kinds in a row.
+pub fn parts(t: &[u8], m: &mut [u16], at: &[usize; 13], formed: usize)
+    requires { ⌜ (framesOf (now t) ≤ 4096) × Starts (now t) (now at) × (allTo (formOk (now t)) formed ≡ true) × Tallied (partKey (now t)) 384 (now m) 0 ⌝ }
+    ensures { λ r. ⌜ Tallied (partKey (now (t .entry))) 384 (now (m .exit)) (framesOf (now (t .entry))) ⌝ }
+{
+    let n = t.len() / 12;
+    if formed == n {
+        tally_parts(t, m, at[EVENT_INPUT], at[ASSOCIATION]);
+    } else {
+        tally_parts(t, m, 0, n);
+    }
 }
 
 // How many parts of class c element el of the table t has.

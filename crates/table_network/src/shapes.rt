@@ -11,6 +11,7 @@ ghost use Rattle.rules_tables.specs.Frame.{framesOf};
 ghost use Rattle.rules_tables.specs.Form.{formOk};
 ghost use Rattle.rules_tables.specs.Shapes.{parts as «partsOf», sourceShape, sinkShape, interfaceShape, delayShape, shapeAs, shapeOk};
 ghost use Rattle.table_network.specs.Keys.{partKey};
+ghost use Rattle.table_network.specs.Known.{Known};
 use crate::parts::EVENT_INPUTS;
 use crate::parts::EVENT_OUTPUTS;
 use crate::parts::INPUTS;
@@ -19,8 +20,8 @@ use crate::parts::OUTPUTS;
 use crate::parts::UNKNOWNS;
 use crate::parts::parts;
 use crate::parts::parts_of;
+use crate::start::start;
 use table_frames::frame::flag;
-use table_frames::frame::kind;
 use table_frames::kind::DELAY;
 use table_frames::kind::ELEMENT;
 use table_frames::kind::INTERFACE;
@@ -127,18 +128,18 @@ fn shape_as(t: &[u8], m: &[u16; 384], el: usize, sort: usize) -> bool
     }
 }
 
-// How many frames of the first n come before the first element of a wrong shape; an element's id is its frame.
-pub fn shapes_end(t: &[u8], n: usize) -> usize
-    requires { ⌜ (framesOf (now t) ≤ 4096) × (n ≤ framesOf (now t)) × (allTo (formOk (now t)) n ≡ true) ⌝ }
+// How many frames of the first n come before the first element of a wrong shape; an element's id is its frame. The first `formed` frames have their form.
+pub fn shapes_end(t: &[u8], at: &[usize; 13], from: &[usize; 13], formed: usize, n: usize) -> usize
+    requires { ⌜ Known (now t) (now at) (now from) n × (allTo (formOk (now t)) formed ≡ true) ⌝ }
     ensures { λ r. ⌜ (r ≡ heldTo (shapeOk (now (t .entry))) n) × (r ≤ n) ⌝ }
 {
-    let m = parts(t);
-    let mut f = 0;
-    while f < n {
-        if kind(t, f) == ELEMENT {
-            if !shape_as(t, &m, f, flag(t, f)) {
-                return f;
-            }
+    let mut m = [0u16; 384];
+    parts(t, &mut m, at, formed);
+    let hi = start(from, ELEMENT + 1, n);
+    let mut f = start(from, ELEMENT, n);
+    while f < hi {
+        if !shape_as(t, &m, f, flag(t, f)) {
+            return f;
         }
         f += 1;
     }

@@ -16,7 +16,7 @@ pub enum Found {
 }
 
 // The j-th frame from `first` on belongs to x and has flag g.
-fn belongs(t: &[u8], first: usize, g: usize, x: usize, j: usize) -> bool
+pub fn belongs(t: &[u8], first: usize, g: usize, x: usize, j: usize) -> bool
     requires { ⌜ first + j < framesOf (now t) ⌝ }
     ensures { λ r. ⌜ r ≡ belongsAt (now (t .entry)) first g x j ⌝ }
 {

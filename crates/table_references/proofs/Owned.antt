@@ -1,4 +1,4 @@
--- What passed tests of ownership say of ids: they exist.
+-- What a passed test of an association says of its event: it exists.
 use mathlib.Core.Path.{_≡_}
 use mathlib.Core.List.{List}
 use mathlib.Core.Bool.{true}
@@ -13,10 +13,6 @@ use Rattle.rules_tables.specs.Place.{countOf, exists, ownerOf, flagOf, ownedBy}
 use Rattle.rules_tables.specs.Reference.{joins}
 
 module _ (T : List ℕ) where
-  pub owned-exists : (k id el : ℕ) → ownedBy T k id el ≡ true → id < countOf T k
-  unfolding ownedBy
-  owned-exists k id el h = ltb-true _ _ (both-left (exists T k id) (eqb (ownerOf T k id) el) h)
-
   -- the event that an association joins
   pub joined-exists : (f k g : ℕ) → joins T f k g ≡ true → fieldAt T f 0 < countOf T k
   unfolding joins

@@ -1,4 +1,5 @@
 -- `advance` meets its contract: the refusals in their order, or the advanced store.
+use Rattle.calls.proofs.Tracing.{ready-lawful, ready-owners}
 use borrow.Author.Needs.{needs}
 use Rattle.calls.proofs.advance.Statement.{statement}
 use Rattle.rules_calls.specs.laws.Checked.{ready}
@@ -39,7 +40,7 @@ returns-3 : tie.Need-returns-3
 returns-3 c = advance-refused _ _ _ (c .before .before .before .before .before .before .before .before .before .check .ensures .0) (c .before .before .before .before .before .before .before .judged .given .1) (c .before .before .before .before .store-refusal .ensures) (c .before .before .before .if1 .left) (c .before .time-refusal .ensures) (c .if2 .taken)
 
 advance-to-requires : tie.Need-advance-to-requires
-advance-to-requires c κs = ready _ (c .before .before .before .before .before .before .before .before .before .before .check .ensures .0) (c .before .before .before .before .before .before .before .before .judged .given .1)
+advance-to-requires c κs = (ready _ (c .before .before .before .before .before .before .before .before .before .before .check .ensures .0) (c .before .before .before .before .before .before .before .before .judged .given .1), ready-lawful _ (c .before .before .before .before .before .before .before .before .before .before .check .ensures .0) (c .before .before .before .before .before .before .before .before .judged .given .1), ready-owners _ (c .before .before .before .before .before .before .before .before .before .before .check .ensures .0) (c .before .before .before .before .before .before .before .before .judged .given .1))
 
 same-length-3 : tie.Need-same-length-3
 same-length-3 c = search needs

@@ -1,4 +1,5 @@
 -- `arrival` meets its contract: the refusals in their order, or the store after the arrival.
+use Rattle.calls.proofs.Tracing.{ready-lawful, ready-owners}
 use borrow.Author.Needs.{needs}
 use Rattle.calls.proofs.arrival.Statement.{statement}
 use Rattle.rules_calls.specs.laws.Checked.{ready}
@@ -40,7 +41,7 @@ returns-3 : tie.Need-returns-3
 returns-3 c = arrival-refused _ _ _ _ _ (c .before .before .before .before .before .before .before .before .before .check .ensures .0) (c .before .before .before .before .before .before .before .judged .given .1) (c .before .before .before .before .store-refusal .ensures) (c .before .before .before .if1 .left) (c .before .event-refusal .ensures) (c .if2 .taken)
 
 arrive-requires : tie.Need-arrive-requires
-arrive-requires c κs = let w = event-known _ _ _ _ _ _ (sym (c .before .before .event-refusal .ensures) ∙ c .before .if2 .left) in (ready _ (c .before .before .before .before .before .before .before .before .before .before .check .ensures .0) (c .before .before .before .before .before .before .before .before .judged .given .1), w .0, w .1)
+arrive-requires c κs = let w = event-known _ _ _ _ _ _ (sym (c .before .before .event-refusal .ensures) ∙ c .before .if2 .left) in (ready _ (c .before .before .before .before .before .before .before .before .before .before .check .ensures .0) (c .before .before .before .before .before .before .before .before .judged .given .1), w .0, w .1, ready-lawful _ (c .before .before .before .before .before .before .before .before .before .before .check .ensures .0) (c .before .before .before .before .before .before .before .before .judged .given .1), ready-owners _ (c .before .before .before .before .before .before .before .before .before .before .check .ensures .0) (c .before .before .before .before .before .before .before .before .judged .given .1))
 
 same-length-3 : tie.Need-same-length-3
 same-length-3 c = search needs

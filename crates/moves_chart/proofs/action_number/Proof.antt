@@ -1,7 +1,7 @@
 -- `action_number` meets its contract: found or not.
 use borrow.Author.Needs.{needs}
-use Rattle.moves_chart.proofs.action_number.Statement.{statement}
 use Rattle.moves_chart.proofs.Turns.{number-one, number-missing}
+use Rattle.moves_chart.proofs.action_number.Statement.{statement}
 use Rattle.moves_chart.proofs.action_number.Tie as tie
 
 wide-requires : tie.Need-wide-requires

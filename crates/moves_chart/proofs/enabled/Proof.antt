@@ -1,6 +1,7 @@
--- `enabled` meets its contract: state, event, guard, in this order.
+-- `enabled` meets its contract: event, then guard; the state is the one that the transition leaves.
 use borrow.Author.Needs.{needs}
-use borrow.Author.Tests.{eq-eqb, ne-eqb, not-true, not-false}
+use mathlib.Core.Path.{refl}
+use borrow.Author.Tests.{eq-eqb, not-true, not-false}
 use Rattle.rules_moves.specs.Chart.{enabled}
 use Rattle.moves_chart.proofs.enabled.Statement.{statement}
 use Rattle.moves_chart.proofs.enabled.Tie as tie
@@ -11,26 +12,19 @@ transition-frame-requires c κs = search needs
 field-requires : tie.Need-field-requires
 field-requires c κs = search needs
 
-returns : tie.Need-returns
-unfolding enabled
-returns c = rw (← c .before .before .transition-frame .ensures .is, ← c .before .field .ensures .0, ne-eqb _ _ (c .if1 .taken))
-
-field-requires-2 : tie.Need-field-requires-2
-field-requires-2 c κs = search needs
-
 heard-requires : tie.Need-heard-requires
 heard-requires c κs = search needs
 
-returns-2 : tie.Need-returns-2
+returns : tie.Need-returns
 unfolding enabled
-returns-2 c = rw (← c .before .before .before .before .before .transition-frame .ensures .is, ← c .before .before .before .before .field .ensures .0, eq-eqb _ _ (c .before .before .before .if1 .left), ← c .before .before .field2 .ensures .0, ← c .before .heard .ensures, not-true (c .before .heard .result) (c .if2 .taken))
+returns c = rw (eq-eqb _ _ refl, ← c .before .before .before .transition-frame .ensures .is, ← c .before .before .field .ensures .0, ← c .before .heard .ensures, not-true (c .before .heard .result) (c .if1 .taken))
 
 guard-holds-requires : tie.Need-guard-holds-requires
 guard-holds-requires c κs = search needs
 
-returns-3 : tie.Need-returns-3
+returns-2 : tie.Need-returns-2
 unfolding enabled
-returns-3 c = rw (← c .before .before .before .before .before .before .transition-frame .ensures .is, ← c .before .before .before .before .before .field .ensures .0, eq-eqb _ _ (c .before .before .before .before .if1 .left), ← c .before .before .before .field2 .ensures .0, ← c .before .before .heard .ensures, not-false (c .before .before .heard .result) (c .before .if2 .left)) (c .guard-holds .ensures)
+returns-2 c = rw (eq-eqb _ _ refl, ← c .before .before .before .before .transition-frame .ensures .is, ← c .before .before .before .field .ensures .0, ← c .before .before .heard .ensures, not-false (c .before .before .heard .result) (c .before .if1 .left)) (c .guard-holds .ensures _ (c .before .before .before .before .transition-frame .ensures .is))
 
 pub enabled-spec : {M : Type 1} → statement M
 enabled-spec =
@@ -38,9 +32,7 @@ enabled-spec =
     (tie.spec
     transition-frame-requires
     field-requires
-    returns
-    field-requires-2
     heard-requires
-    returns-2
+    returns
     guard-holds-requires
-    returns-3)
+    returns-2)

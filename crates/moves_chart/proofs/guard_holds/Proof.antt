@@ -1,11 +1,15 @@
--- `guard_holds` meets its contract: the guard of the two values.
+-- `guard_holds` meets its contract: always, or the guard of the two values.
 use borrow.Author.Needs.{needs}
 use Rattle.rules_moves.specs.Chart.{guardHolds}
+use Rattle.moves_chart.proofs.Turns.{always-holds}
 use Rattle.moves_chart.proofs.guard_holds.Statement.{statement}
 use Rattle.moves_chart.proofs.guard_holds.Tie as tie
 
-transition-frame-requires : tie.Need-transition-frame-requires
-transition-frame-requires c κs = search needs
+flag-requires : tie.Need-flag-requires
+flag-requires c κs = search needs
+
+returns : tie.Need-returns
+returns c = λ j e. always-holds _ _ _ j (rw e at (c .before .flag .ensures .0)) (c .if1 .taken)
 
 field-requires : tie.Need-field-requires
 field-requires c κs = search needs
@@ -19,25 +23,22 @@ field-requires-2 c κs = search needs
 value-of-requires-2 : tie.Need-value-of-requires-2
 value-of-requires-2 c κs = search needs
 
-flag-requires : tie.Need-flag-requires
-flag-requires c κs = search needs
-
 holds-words-requires : tie.Need-holds-words-requires
 holds-words-requires c κs = search needs
 
-returns : tie.Need-returns
+returns-2 : tie.Need-returns-2
 unfolding guardHolds
-returns c = rw (← c .before .before .before .before .before .before .transition-frame .ensures .is, ← c .before .before .before .before .before .field .ensures .0, ← c .before .before .before .before .value-of .ensures, ← c .before .before .before .field2 .ensures .0, ← c .before .before .value-of2 .ensures, ← c .before .flag .ensures .0) (c .holds-words .ensures)
+returns-2 c = λ j e. rw (← e, ← c .before .before .before .before .field .ensures .0, ← c .before .before .before .value-of .ensures, ← c .before .before .field2 .ensures .0, ← c .before .value-of2 .ensures, ← c .before .before .before .before .before .before .flag .ensures .0) (c .holds-words .ensures)
 
 pub guard-holds-spec : {M : Type 1} → statement M
 guard-holds-spec =
     tie.close
     (tie.spec
-    transition-frame-requires
+    flag-requires
+    returns
     field-requires
     value-of-requires
     field-requires-2
     value-of-requires-2
-    flag-requires
     holds-words-requires
-    returns)
+    returns-2)

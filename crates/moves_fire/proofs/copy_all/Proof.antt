@@ -1,72 +1,75 @@
--- `copy_all` meets its contract. The invariant: the store is what the data connections passed made of it.
-use Rattle.moves_fire.proofs.copy_all.Statement.{statement}
+use Rattle.moves_fire.specs.laws.Copies.{copies-one-by-one}
+use Rattle.moves_fire.specs.laws.Carrying.{carried-idle, speaks-belongs}
+use Rattle.table_index.specs.laws.Leads.{leads-start, leads-more}
+use Rattle.moves_fire.specs.Carried.{copiesFrom}
+use Rattle.rules_moves.specs.Carry.{carriedBy}
+use Rattle.rules_tables.specs.Ids.{firstAssociation, associations}
+use mathlib.Core.List.{List}
+use Prim.Native.Nat.{ℕ}
+use Rattle.rules_walks.specs.laws.Walk.{upTo-end}
+use Rattle.rules_tables.specs.Owned.{belongs}
 use Rattle.rules_walks.specs.Walk.{upTo}
-use Rattle.rules_walks.specs.laws.Walk.{upTo-none, upTo-more, upTo-end}
-use Rattle.numbers_bits.specs.Bit.{inSet}
-use Rattle.rules_tables.specs.Ids.{links}
-use Rattle.store_words.specs.laws.Small.{small}
-use Rattle.rules_moves.specs.Fire.{copyIf}
-use Rattle.moves_fire.proofs.Turns.{copy-take, copy-skip}
-use borrow.Author.Needs.{needs}
+use Prim.Native.Nat.{_≤_, _<_, _-_}
+use mathlib.Core.Bool.{true}
 use lib.ListN.{length}
-use mathlib.Core.Logic.{⊎-elim}
-use mathlib.Core.Path.{_≡_, refl, sym, ap, _∙_}
+use mathlib.Core.Path.{_≡_, refl, sym, _∙_}
+use borrow.Author.Needs.{needs}
 use native.Mathlib.Omega.{arith}
-use Prim.Native.Nat.{_≤_, _-_}
+use Rattle.moves_fire.proofs.copy_all.Statement.{statement}
 use Rattle.moves_fire.proofs.copy_all.Tie as tie
+use Rattle.moves_fire.proofs.copy_all.Reads as reads
+use Rattle.moves_fire.proofs.copy_all.Lts as lts
+use Rattle.moves_fire.proofs.carry.carried_by.Reads as carried-by-reads
+use Rattle.moves_fire.proofs.copy_from.Reads as copy-from-reads
+use Rattle.store_words.proofs.shape.associations.Reads as associations-reads
+use Rattle.table_index.proofs.read.first_association.Reads as first-association-reads
+use Rattle.table_index.proofs.read.next_association.Reads as next-association-reads
 
 abbrev Inv-loop : tie.InvT-loop
-Inv-loop t store₀ s m n j₀ store j = (j ≤ links s) × (store ≡ upTo (copyIf t s (inSet m)) j store₀) × (length store ≡ length store₀)
+Inv-loop t ix store₀ shape w n j₀ store j = (j ≤ associations shape) × (store ≡ upTo (λ (i : ℕ) (x : List ℕ). copiesFrom t shape (carriedBy t shape w i) x) j store₀) × (length store ≡ length store₀) × (j < associations shape → belongs t (firstAssociation shape) (w .flag) (w .event) j ≡ true)
 
 abbrev μ-loop : tie.MeasureT-loop
-μ-loop t store₀ s m n j₀ store j = links s - j
+μ-loop t ix store₀ shape w n j₀ store j = associations shape - j
 
-links-requires : tie.Need-links-requires Inv-loop μ-loop
-links-requires c κs = search needs
+-- src/lib.rt:102:9
+associations-requires : tie.Need-associations-requires Inv-loop μ-loop
+associations-requires c κs = search needs
 
+-- src/lib.rt:103:9
+first-association-requires : tie.Need-first-association-requires Inv-loop μ-loop
+first-association-requires c κs = (c .before .before .before .pre .1, c .before .before .before .pre .2)
+
+-- src/lib.rt:104:5
 loop-holds : tie.Need-loop-holds Inv-loop μ-loop
-loop-holds c = (search needs, upTo-none _ _, refl)
+loop-holds c = let l = c .first-association .ensures in (l .within, leads-start l _ _ (λ i q x. carried-idle _ _ _ _ i (c .before .before .before .before .pre .0) (c .before .before .before .before .pre .2) q x) refl, refl, l .met)
 
-link-frame-requires : tie.Need-link-frame-requires Inv-loop μ-loop
-link-frame-requires c κs = search needs
+-- src/lib.rt:105:13
+carried-by-requires : tie.Need-carried-by-requires Inv-loop μ-loop
+carried-by-requires c κs = let l = c .before .loop in (c .before .before .before .before .before .before .pre .0, c .before .before .before .before .before .before .pre .1, omega arith, speaks-belongs _ _ _ _ _ (c .before .before .before .before .before .before .pre .2) ∙ l .inv .3 (omega arith))
 
-field-requires : tie.Need-field-requires Inv-loop μ-loop
-field-requires c κs = search needs
+-- src/lib.rt:106:9
+copy-from-requires : tie.Need-copy-from-requires Inv-loop μ-loop
+copy-from-requires c κs = (c .before .before .before .before .before .before .before .before .pre .0, c .before .before .before .before .before .before .before .before .pre .1)
 
-has-requires : tie.Need-has-requires Inv-loop μ-loop
-has-requires c κs = omega (arith, rw (c .before .before .link-frame .ensures .is) at (c .before .field .ensures .0), c .before .before .before .before .before .before .before .before .pre .link-source (c .before .before .before .before .loop .j) (omega arith))
+-- src/lib.rt:107:9
+next-association-requires : tie.Need-next-association-requires Inv-loop μ-loop
+next-association-requires c κs = (c .before .before .before .before .before .before .before .before .before .before .before .pre .1, omega arith)
 
-value-of-requires : tie.Need-value-of-requires Inv-loop μ-loop
-value-of-requires c κs = (small _ _ (c .before .before .before .before .before .before .before .before .before .before .before .pre), omega arith)
-
-field-requires-2 : tie.Need-field-requires-2 Inv-loop μ-loop
-field-requires-2 c κs = search needs
-
-put-buffer-requires : tie.Need-put-buffer-requires Inv-loop μ-loop
-put-buffer-requires c κs = (small _ _ (c .before .before .before .before .before .before .before .before .before .before .before .before .before .before .pre), omega arith)
-
-add-j : tie.Need-add-j Inv-loop μ-loop
-add-j c = search needs
-
+-- src/lib.rt:104:5
 loop-less : tie.Need-loop-less Inv-loop μ-loop
-loop-less c = search needs
+loop-less c = let l = c .before .before .before .before .before .before .before .loop in let h = l .inv .3 (omega arith) in let q = c .next-association .ensures .under _ (c .before .before .before .before .before .before .before .before .before .before .before .before .pre .2) .next _ h .from in omega arith
 
+-- src/lib.rt:104:5
 loop-again : tie.Need-loop-again Inv-loop μ-loop
-loop-again c =
-    let l = c .before .before .before .before .before .before .loop in
-    let a = c .before .before .before .before .link-frame .ensures .is in
-    let e = c .before .before .before .field .ensures .0 in
-    let h = c .before .has .ensures in
-    ⊎-elim
-    (λ w. (omega arith, upTo-more _ _ _ _ _ (l .inv .1) (copy-take _ _ _ _ _ _ a e (sym h ∙ w .0 .taken) (w .2 .ensures) (w .4 .ensures .0) (w .8 ∙ w .5 .ensures)), omega (arith, ap length (w .8))))
-    (λ w. (omega arith, upTo-more _ _ _ _ _ (l .inv .1) (copy-skip _ _ _ _ _ _ a e (sym h ∙ w .0 .left) (w .1)), omega (arith, ap length (w .1))))
-    (c .if1 .came)
+loop-again c = let l = c .before .before .before .before .before .before .before .loop in let h = l .inv .3 (omega arith) in let w = c .next-association .ensures .under _ (c .before .before .before .before .before .before .before .before .before .before .before .before .pre .2) .next _ h in (w .within, leads-more w _ _ _ _ (λ i q x. carried-idle _ _ _ _ i (c .before .before .before .before .before .before .before .before .before .before .before .before .pre .0) (c .before .before .before .before .before .before .before .before .before .before .before .before .pre .2) q x) refl (l .inv .1) (rw (← c .before .before .before .before .before .carried-by .ensures) (c .before .before .before .copy-from .ensures)), omega (arith, l .inv .2), w .met)
 
+-- src/lib.rt:98:1
 same-length : tie.Need-same-length Inv-loop μ-loop
 same-length c = search needs
 
+-- src/lib.rt:98:1
 returns : tie.Need-returns Inv-loop μ-loop
-returns c = upTo-end _ _ _ _ _ (c .before .loop .inv .1) (omega arith)
+returns c = upTo-end _ _ _ _ _ (c .before .loop .inv .1) (let l = c .before .loop in omega arith) ∙ sym (copies-one-by-one _ _ (c .before .before .before .before .before .before .pre .1 .lawful) _ _)
 
 pub copy-all-spec : {M : Type 1} → statement M
 copy-all-spec =
@@ -74,15 +77,12 @@ copy-all-spec =
     (tie.spec
     Inv-loop
     μ-loop
-    links-requires
+    associations-requires
+    first-association-requires
     loop-holds
-    link-frame-requires
-    field-requires
-    has-requires
-    value-of-requires
-    field-requires-2
-    put-buffer-requires
-    add-j
+    carried-by-requires
+    copy-from-requires
+    next-association-requires
     loop-less
     loop-again
     same-length

@@ -1,16 +1,13 @@
--- `fire` meets its contract: the set that `carried` gives is that of the event's voice.
+-- `fire` meets its contract: the voice is the event's own.
 use borrow.Author.Needs.{needs}
 use Rattle.moves_fire.proofs.fire.Statement.{statement}
 use Rattle.moves_fire.proofs.fire.Tie as tie
 
 voice-of-requires : tie.Need-voice-of-requires
-voice-of-requires c κs = search needs
+voice-of-requires c κs = (c .before .before .pre .0, c .before .before .pre .2)
 
-carried-requires : tie.Need-carried-requires
-carried-requires c κs = search needs
-
-fire-carrying-requires : tie.Need-fire-carrying-requires
-fire-carrying-requires c κs = (c .before .before .before .before .before .before .pre .0, rw (← c .before .before .before .voice-of .ensures) (c .before .before .carried .ensures))
+fire-by-requires : tie.Need-fire-by-requires
+fire-by-requires c κs = (c .before .before .before .before .pre .0, c .before .before .before .before .pre .1, c .before .voice-of .ensures)
 
 same-length : tie.Need-same-length
 same-length c = search needs
@@ -21,4 +18,4 @@ returns c = search needs
 pub fire-spec : {M : Type 1} → statement M
 fire-spec =
     tie.close
-    (tie.spec voice-of-requires carried-requires fire-carrying-requires same-length returns)
+    (tie.spec voice-of-requires fire-by-requires same-length returns)

@@ -10,13 +10,13 @@ enum-known-n : tie.Need-enum-known-n
 enum-known-n c = search needs
 
 take-event-requires : tie.Need-take-event-requires
-take-event-requires c κs = (c .before .before .before .before .before .before .before .before .pre .0, ready-input _ _ (answer-ready _ _ _ _ (c .before .before .before .before .before .before .before .before .pre .0) _ (c .before .before .before .before .before .before .before .before .pre .2)) _ (c .before .before .before .n .given .1), c .before .before .before .before .before .before .before .before .pre .3, room-for _ _ _ _ _ _ _ _ (c .before .before .before .n .given .1) (c .before .before .before .before .before .before .before .before .pre .4))
+take-event-requires c κs = (c .before .before .before .before .before .before .before .before .pre .0, ready-input _ _ (answer-ready _ _ _ _ (c .before .before .before .before .before .before .before .before .pre .0) _ (c .before .before .before .before .before .before .before .before .pre .2)) _ (c .before .before .before .n .given .1), c .before .before .before .before .before .before .before .before .pre .3, room-for _ _ _ _ _ _ _ _ (c .before .before .before .n .given .1) (c .before .before .before .before .before .before .before .before .pre .4), c .before .before .before .before .before .before .before .before .pre .5)
 
 enum-known-n-2 : tie.Need-enum-known-n-2
 enum-known-n-2 c = search needs
 
 change-requires : tie.Need-change-requires
-change-requires c κs = (c .before .before .before .before .before .before .before .pre .0, ready-transition _ _ (answer-ready _ _ _ _ (c .before .before .before .before .before .before .before .pre .0) _ (c .before .before .before .before .before .before .before .pre .2)) _ (c .before .before .n2 .given .1))
+change-requires c κs = (c .before .before .before .before .before .before .before .pre .0, c .before .before .before .before .before .before .before .pre .5, ready-transition _ _ (answer-ready _ _ _ _ (c .before .before .before .before .before .before .before .pre .0) _ (c .before .before .before .before .before .before .before .pre .2)) _ (c .before .before .n2 .given .1))
 
 enum-told : tie.Need-enum-told
 enum-told c = search needs
@@ -34,7 +34,7 @@ enum-known-n-4 : tie.Need-enum-known-n-4
 enum-known-n-4 c = search needs
 
 end-requires : tie.Need-end-requires
-end-requires c κs = (c .before .before .before .before .before .before .before .pre .0, ready-action _ _ (answer-ready _ _ _ _ (c .before .before .before .before .before .before .before .pre .0) _ (c .before .before .before .before .before .before .before .pre .2)) _ (c .before .before .n4 .given .1), end-action _ _ _ _ _ (c .before .before .before .before .before .before .before .pre .2) (c .before .before .before .before .before .before .before .pre .0) _ (c .before .before .n4 .given .1), actions-few _ _ _ _ _ (c .before .before .before .before .before .before .before .pre .2) (c .before .before .before .before .before .before .before .pre .0) _ (c .before .before .n4 .given .1))
+end-requires c κs = (c .before .before .before .before .before .before .before .pre .0, ready-action _ _ (answer-ready _ _ _ _ (c .before .before .before .before .before .before .before .pre .0) _ (c .before .before .before .before .before .before .before .pre .2)) _ (c .before .before .n4 .given .1), end-action _ _ _ _ _ (c .before .before .before .before .before .before .before .pre .2) (c .before .before .before .before .before .before .before .pre .0) _ (c .before .before .n4 .given .1), actions-few _ _ _ _ _ (c .before .before .before .before .before .before .before .pre .2) (c .before .before .before .before .before .before .before .pre .0) _ (c .before .before .n4 .given .1), c .before .before .before .before .before .before .before .pre .5)
 
 enum-told-2 : tie.Need-enum-told-2
 enum-told-2 c = search needs

@@ -23,7 +23,7 @@ returns : tie.Need-returns
 returns c = act-missing _ _ _ _ (c .before .before .before .before .state-of .ensures) (c .before .before .before .wide .ensures .is) (c .before .before .action-of .ensures) (c .enum-told .given .1)
 
 action-frame-requires : tie.Need-action-frame-requires
-action-frame-requires c κs = (c .before .before .before .before .before .before .before .before .pre, act-in _ _ (c .before .before .before .before .before .before .before .before .args .r) _ (c .before .before .before .before .before .state-of .ensures) (c .before .before .before .before .wide .ensures .is) (c .before .before .before .action-of .ensures) _ (c .before .j .given .1))
+action-frame-requires c κs = (c .before .before .before .before .before .before .before .before .pre .0, act-in _ _ (c .before .before .before .before .before .before .before .before .args .r) _ (c .before .before .before .before .before .state-of .ensures) (c .before .before .before .before .wide .ensures .is) (c .before .before .before .action-of .ensures) _ (c .before .j .given .1))
 
 wide-requires-2 : tie.Need-wide-requires-2
 wide-requires-2 c κs = search needs
@@ -34,8 +34,8 @@ field-requires c κs = search needs
 field-requires-2 : tie.Need-field-requires-2
 field-requires-2 c κs = search needs
 
-add-t13 : tie.Need-add-t13
-add-t13 c = search needs
+add-t14 : tie.Need-add-t14
+add-t14 c = search needs
 
 returns-2 : tie.Need-returns-2
 returns-2 c = act-step _ _ _ _ (c .before .before .before .before .before .before .before .before .before .before .state-of .ensures) (c .before .before .before .before .before .before .before .before .before .wide .ensures .is) (c .before .before .before .before .before .before .before .before .action-of .ensures) _ (c .before .before .before .before .before .before .j .given .1) (c .before .before .before .before .action-frame .ensures .is) (c .before .before .before .wide2 .ensures .is) (c .before .before .field .ensures .0) (c .field2 .ensures .0) (c .before .if1 .taken)
@@ -57,6 +57,6 @@ next-act-spec =
     wide-requires-2
     field-requires
     field-requires-2
-    add-t13
+    add-t14
     returns-2
     returns-3)

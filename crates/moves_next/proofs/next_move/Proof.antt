@@ -15,13 +15,13 @@ next-act-requires : tie.Need-next-act-requires
 next-act-requires c κs = search needs
 
 returns : tie.Need-returns
-returns c = let e = next-idle _ _ _ _ (c .before .match .keys1) (c .next-event .ensures) in (e, answer-ready _ _ (c .before .before .before .before .args .r) _ (c .before .before .before .before .pre) _ e)
+returns c = let e = next-idle _ _ _ _ (c .before .match .keys1) (c .next-event .ensures) in (e, answer-ready _ _ (c .before .before .before .before .args .r) _ (c .before .before .before .before .pre .0) _ e)
 
 returns-2 : tie.Need-returns-2
-returns-2 c = let e = next-charts _ _ _ _ (c .before .match .keys2) (c .next-transition .ensures) in (e, answer-ready _ _ (c .before .before .before .before .args .r) _ (c .before .before .before .before .pre) _ e)
+returns-2 c = let e = next-charts _ _ _ _ (c .before .match .keys2) (c .next-transition .ensures) in (e, answer-ready _ _ (c .before .before .before .before .args .r) _ (c .before .before .before .before .pre .0) _ e)
 
 returns-3 : tie.Need-returns-3
-returns-3 c = let e = next-acts _ _ _ _ (c .before .match .rest .0 .1) (c .before .match .rest .1) (c .next-act .ensures) in (e, answer-ready _ _ (c .before .before .before .before .args .r) _ (c .before .before .before .before .pre) _ e)
+returns-3 c = let e = next-acts _ _ _ _ (c .before .match .rest .0 .1) (c .before .match .rest .1) (c .next-act .ensures) in (e, answer-ready _ _ (c .before .before .before .before .args .r) _ (c .before .before .before .before .pre .0) _ e)
 
 pub next-move-spec : {M : Type 1} → statement M
 next-move-spec =

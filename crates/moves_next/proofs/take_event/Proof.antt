@@ -20,7 +20,7 @@ flag-requires : tie.Need-flag-requires
 flag-requires c κs = owner-in _ _ _ (at-frame _ 0 (c .before .input-frame .ensures .is) (c .field .ensures .0)) (c .before .before .before .before .before .before .before .before .before .pre .0) (c .before .before .before .before .before .before .before .before .before .pre .1)
 
 receive-requires : tie.Need-receive-requires
-receive-requires c κs = (c .before .before .before .before .before .before .before .before .before .before .before .before .pre .0, c .before .before .before .before .before .before .before .before .before .before .before .before .pre .1, event-known _ _ _ _ (at-frame _ 0 (c .before .before .before .before .input-frame .ensures .is) (c .before .before .before .field .ensures .0)) (c .before .before .flag .ensures .0) (c .before .before .before .before .before .before .before .birth .ensures) (c .before .before .before .before .before .last-update .ensures), c .before .before .before .before .before .before .before .before .before .before .before .before .pre .2, rw (c .before .before .before .before .before .before .before .birth .ensures) (c .before .before .before .before .before .before .before .before .before .before .before .before .pre .3))
+receive-requires c κs = (c .before .before .before .before .before .before .before .before .before .before .before .before .pre .0, c .before .before .before .before .before .before .before .before .before .before .before .before .pre .1, event-known _ _ _ _ (at-frame _ 0 (c .before .before .before .before .input-frame .ensures .is) (c .before .before .before .field .ensures .0)) (c .before .before .flag .ensures .0) (c .before .before .before .before .before .before .before .birth .ensures) (c .before .before .before .before .before .last-update .ensures), c .before .before .before .before .before .before .before .before .before .before .before .before .pre .2, rw (c .before .before .before .before .before .before .before .birth .ensures) (c .before .before .before .before .before .before .before .before .before .before .before .before .pre .3), c .before .before .before .before .before .before .before .before .before .before .before .before .pre .4)
 
 same-length : tie.Need-same-length
 same-length c = search needs

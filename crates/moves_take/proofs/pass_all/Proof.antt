@@ -1,68 +1,68 @@
--- `pass_all` meets its contract. The invariant: the store is what the associations passed, each sampled and passed on, made of it, and the set has what they
--- have the partner event carry. That one walk does what the definition does in two is `passed-together`.
-use borrow.Author.Needs.{needs}
-use Rattle.rules_tables.specs.Kind.{ofInput}
-use Rattle.moves_take.proofs.pass_all.Statement.{statement}
-use Rattle.rules_walks.specs.Walk.{upTo}
-use Rattle.rules_walks.specs.laws.Walk.{upTo-none, upTo-more}
-use Rattle.numbers_bits.specs.Marked.{Marked}
-use Rattle.numbers_bits.specs.laws.Marked.{marked-none}
-use Rattle.rules_tables.specs.Ids.{associations}
-use Rattle.rules_moves.specs.Carry.{voice}
-use Rattle.moves_fire.specs.Carrying.{marks}
-use Rattle.moves_fire.specs.laws.Carrying.{carry-more, carry-skip, carry-end}
+use Rattle.moves_take.proofs.Turns.{passed-end, pass-idle, voiced}
+use Rattle.table_index.specs.laws.Leads.{leads-start, leads-more}
 use Rattle.rules_moves.specs.Take.{sample, pass}
-use Rattle.moves_take.proofs.Turns.{passed-end}
-use lib.ListN.{length}
 use mathlib.Core.List.{List}
-use mathlib.Core.Logic.{⊎-elim}
-use mathlib.Core.Path.{_≡_, refl, _∙_}
+use Prim.Native.Nat.{ℕ}
+use Rattle.rules_tables.specs.Ids.{firstAssociation, associations}
+use Rattle.rules_tables.specs.Owned.{belongs}
+use Rattle.rules_tables.specs.Kind.{ofInput}
+use Rattle.rules_walks.specs.Walk.{upTo}
+use Prim.Native.Nat.{_≤_, _<_, _-_}
+use mathlib.Core.Bool.{true}
+use lib.ListN.{length}
+use mathlib.Core.Path.{_≡_, refl}
+use borrow.Author.Needs.{needs}
 use native.Mathlib.Omega.{arith}
-use Prim.Native.Nat.{ℕ, _≤_, _-_}
+use Rattle.moves_take.proofs.pass_all.Statement.{statement}
 use Rattle.moves_take.proofs.pass_all.Tie as tie
+use Rattle.moves_take.proofs.pass_all.Reads as reads
+use Rattle.moves_take.proofs.pass_all.Lts as lts
+use Rattle.moves_take.proofs.pass_on.Reads as pass-on-reads
+use Rattle.store_words.proofs.shape.associations.Reads as associations-reads
+use Rattle.table_index.proofs.read.first_association.Reads as first-association-reads
+use Rattle.table_index.proofs.read.next_association.Reads as next-association-reads
 
 abbrev Inv-loop : tie.InvT-loop
-Inv-loop t store₀ s i n m₀ j₀ store m j = (j ≤ associations s) × (store ≡ upTo (λ (k : ℕ) (x : List ℕ). pass t s i k (sample t s i k x)) j store₀) × (length store ≡ length store₀) × Marked (marks t s (voice ofInput i)) 16 m j
+Inv-loop t ix store₀ shape i n j₀ store j = (j ≤ associations shape) × (store ≡ upTo (λ (k : ℕ) (x : List ℕ). pass t shape i k (sample t shape i k x)) j store₀) × (length store ≡ length store₀) × (j < associations shape → belongs t (firstAssociation shape) ofInput i j ≡ true)
 
 abbrev μ-loop : tie.MeasureT-loop
-μ-loop t store₀ s i n m₀ j₀ store m j = associations s - j
+μ-loop t ix store₀ shape i n j₀ store j = associations shape - j
 
+-- src/lib.rt:103:9
 associations-requires : tie.Need-associations-requires Inv-loop μ-loop
 associations-requires c κs = search needs
 
+-- src/lib.rt:104:9
+first-association-requires : tie.Need-first-association-requires Inv-loop μ-loop
+first-association-requires c κs = (c .before .before .before .pre .1, omega arith)
+
+-- src/lib.rt:105:5
 loop-holds : tie.Need-loop-holds Inv-loop μ-loop
-loop-holds c = (search needs, upTo-none _ _, refl, marked-none _ _)
+loop-holds c = let l = c .first-association .ensures in (l .within, leads-start l _ _ (λ k q x. pass-idle _ _ _ k q x) refl, refl, l .met)
 
+-- src/lib.rt:106:9
 pass-on-requires : tie.Need-pass-on-requires Inv-loop μ-loop
-pass-on-requires c κs = search needs
+pass-on-requires c κs = let l = c .before .before .loop in (c .before .before .before .before .before .before .before .pre .0, omega arith, c .before .before .before .before .before .before .before .pre .1, voiced _ _ _ _ (l .inv .3 (omega arith)))
 
-slice-aggregate-mark : tie.Need-slice-aggregate-mark Inv-loop μ-loop
-slice-aggregate-mark c = search needs
+-- src/lib.rt:107:9
+next-association-requires : tie.Need-next-association-requires Inv-loop μ-loop
+next-association-requires c κs = (c .before .before .before .before .before .before .before .before .before .before .pre .1, omega arith)
 
-mark-requires : tie.Need-mark-requires Inv-loop μ-loop
-mark-requires c κs = search needs
-
-add-j : tie.Need-add-j Inv-loop μ-loop
-add-j c = search needs
-
+-- src/lib.rt:105:5
 loop-less : tie.Need-loop-less Inv-loop μ-loop
-loop-less c = search needs
+loop-less c = let l = c .before .before .before .before .before .before .loop in let h = l .inv .3 (omega arith) in let q = c .next-association .ensures .under 0 (omega arith) .next _ h .from in omega arith
 
+-- src/lib.rt:105:5
 loop-again : tie.Need-loop-again Inv-loop μ-loop
-loop-again c =
-    let l = c .before .before .before .before .before .before .loop in
-    let e = c .before .before .before .pass-on .ensures in (
-      search needs,
-      upTo-more _ _ _ _ _ (l .inv .1) (e .0),
-      search needs,
-      ⊎-elim (λ w. carry-more _ _ _ (l .m) _ (l .j) (e .1) (w .0 .taken) (w .4 ∙ w .2 .ensures .1) (l .inv .3)) (λ w. carry-skip _ _ _ (l .m) _ (l .j) (e .1) (w .0 .left) (w .1) (l .inv .3)) (c .if1 .came),
-    )
+loop-again c = let l = c .before .before .before .before .before .before .loop in let h = l .inv .3 (omega arith) in let w = c .next-association .ensures .under 0 (omega arith) .next _ h in (w .within, leads-more w _ _ _ _ (λ k q x. pass-idle _ _ _ k q x) refl (l .inv .1) (c .before .before .before .pass-on .ensures), omega (arith, l .inv .2), w .met)
 
+-- src/lib.rt:99:1
 same-length : tie.Need-same-length Inv-loop μ-loop
 same-length c = search needs
 
+-- src/lib.rt:99:1
 returns : tie.Need-returns Inv-loop μ-loop
-returns c = (passed-end _ _ _ _ _ _ (c .before .before .before .before .before .pre) (c .before .loop .inv .1) (omega arith), carry-end _ _ _ _ _ (omega arith) (c .before .loop .inv .3))
+returns c = passed-end _ _ _ _ _ _ (c .before .before .before .before .before .before .pre .0) (c .before .loop .inv .1) (let l = c .before .loop in omega arith)
 
 pub pass-all-spec : {M : Type 1} → statement M
 pass-all-spec =
@@ -71,11 +71,10 @@ pass-all-spec =
     Inv-loop
     μ-loop
     associations-requires
+    first-association-requires
     loop-holds
     pass-on-requires
-    slice-aggregate-mark
-    mark-requires
-    add-j
+    next-association-requires
     loop-less
     loop-again
     same-length

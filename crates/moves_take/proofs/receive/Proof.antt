@@ -17,7 +17,7 @@ wake-requires : tie.Need-wake-requires
 wake-requires c κs = let l = element-small _ _ _ 0 _ [] 0 (c .before .before .before .before .before .before .before .before .before .before .before .before .before .pre .2) (c .before .before .before .before .before .before .before .before .before .before .before .before .before .pre .0) (c .before .before .before .before .before .before .before .before .before .before .before .before .before .pre .1) in let g = c .before .before .before .before .before .before .before .before .before .before .before .before .before .pre .0 in (l, omega arith)
 
 relay-requires : tie.Need-relay-requires
-relay-requires c κs = (c .before .before .before .before .before .before .before .before .before .pre .0, c .before .before .before .before .before .before .before .before .before .pre .1, sym (c .before .before .before .before .before .before .before .before .before .pre .2 .sort-is) ∙ c .before .match .keys2)
+relay-requires c κs = (c .before .before .before .before .before .before .before .before .before .pre .0, c .before .before .before .before .before .before .before .before .before .pre .1, sym (c .before .before .before .before .before .before .before .before .before .pre .2 .sort-is) ∙ c .before .match .keys2, c .before .before .before .before .before .before .before .before .before .pre .5)
 
 sample-all-requires-2 : tie.Need-sample-all-requires-2
 sample-all-requires-2 c κs = search needs
@@ -26,7 +26,7 @@ start-stop-requires : tie.Need-start-stop-requires
 start-stop-requires c κs = (c .before .before .before .before .before .before .before .before .before .before .before .before .before .pre .0, c .before .before .before .before .before .before .before .before .before .before .before .before .before .pre .1, element-small _ _ _ 0 _ [] 0 (c .before .before .before .before .before .before .before .before .before .before .before .before .before .pre .2) (c .before .before .before .before .before .before .before .before .before .before .before .before .before .pre .0) (c .before .before .before .before .before .before .before .before .before .before .before .before .before .pre .1), c .before .before .before .before .before .before .before .before .before .before .before .before .before .pre .3)
 
 write-record-requires : tie.Need-write-record-requires
-write-record-requires c κs = (c .before .before .before .before .before .before .before .before .before .before .pre .0, element-small _ _ _ 0 _ [] 0 (c .before .before .before .before .before .before .before .before .before .before .pre .2) (c .before .before .before .before .before .before .before .before .before .before .pre .0) (c .before .before .before .before .before .before .before .before .before .before .pre .1), c .before .before .before .before .before .before .before .before .before .before .pre .1, record-fits _ _ _ _ _ [] _ (c .before .before .before .before .before .before .before .before .before .before .pre .2) _ (c .before .before .match .keys4) (c .before .before .before .before .before .before .before .before .before .before .pre .4))
+write-record-requires c κs = (c .before .before .before .before .before .before .before .before .before .before .pre .0, element-small _ _ _ 0 _ [] 0 (c .before .before .before .before .before .before .before .before .before .before .pre .2) (c .before .before .before .before .before .before .before .before .before .before .pre .0) (c .before .before .before .before .before .before .before .before .before .before .pre .1), c .before .before .before .before .before .before .before .before .before .before .pre .1, record-fits _ _ _ _ _ [] _ (c .before .before .before .before .before .before .before .before .before .before .pre .2) _ (c .before .before .match .keys4) (c .before .before .before .before .before .before .before .before .before .before .pre .4), c .before .before .before .before .before .before .before .before .before .before .pre .5)
 
 sample-all-requires-3 : tie.Need-sample-all-requires-3
 sample-all-requires-3 c κs = search needs

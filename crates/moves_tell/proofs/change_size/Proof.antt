@@ -11,7 +11,7 @@ field-requires : tie.Need-field-requires
 field-requires c κs = search needs
 
 action-number-requires : tie.Need-action-number-requires
-action-number-requires c κs = search needs
+action-number-requires c κs = (c .before .before .before .pre .0, c .before .before .before .pre .2)
 
 returns : tie.Need-returns
 returns c = change-none _ _ _ (c .before .before .before .transition-frame .ensures .is) (c .before .before .field .ensures .0) (c .before .action-number .ensures) (c .if1 .taken)

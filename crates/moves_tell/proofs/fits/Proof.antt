@@ -8,7 +8,7 @@ use Rattle.moves_tell.proofs.fits.Statement.{statement}
 use Rattle.moves_tell.proofs.fits.Tie as tie
 
 returns : tie.Need-returns
-returns c = fits-most _ _ _ _ _ _ (c .before .before .before .pre) _ (c .if1 .taken)
+returns c = fits-most _ _ _ _ _ _ (c .before .before .before .pre .0) _ (c .if1 .taken)
 
 size-requires : tie.Need-size-requires
 size-requires c κs = search needs

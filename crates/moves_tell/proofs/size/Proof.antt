@@ -10,16 +10,16 @@ slice-aggregate-tell : tie.Need-slice-aggregate-tell
 slice-aggregate-tell c = search needs
 
 tell-requires : tie.Need-tell-requires
-tell-requires c κs = (c .before .before .before .pre, first-room _ _ _ _ _ _ (c .before .before .before .pre) _ _ (most-room _ _ _ _ _ _ (c .before .before .before .pre) _ refl))
+tell-requires c κs = (c .before .before .before .pre .0, first-room _ _ _ _ _ _ (c .before .before .before .pre .0) _ _ (most-room _ _ _ _ _ _ (c .before .before .before .pre .0) _ refl), c .before .before .before .pre .1)
 
 numbers-size-requires : tie.Need-numbers-size-requires
 numbers-size-requires c κs = search needs
 
 add-result : tie.Need-add-result
-add-result c = let h = foretold _ _ _ _ _ _ (c .before .before .before .before .before .before .pre) (c .before .before .tell .ensures) (c .numbers-size .ensures) in let m = few-bytes _ _ _ _ _ _ (c .before .before .before .before .before .before .pre) in omega arith
+add-result c = let h = foretold _ _ _ _ _ _ (c .before .before .before .before .before .before .pre .0) (c .before .before .tell .ensures) (c .numbers-size .ensures) in let m = few-bytes _ _ _ _ _ _ (c .before .before .before .before .before .before .pre .0) in omega arith
 
 returns : tie.Need-returns
-returns c = foretold _ _ _ _ _ _ (c .before .before .before .before .before .before .pre) (c .before .before .tell .ensures) (c .numbers-size .ensures)
+returns c = foretold _ _ _ _ _ _ (c .before .before .before .before .before .before .pre .0) (c .before .before .tell .ensures) (c .numbers-size .ensures)
 
 pub size-spec : {M : Type 1} → statement M
 size-spec =

@@ -2,24 +2,27 @@
 use mathlib.Core.Path.{_≡_, refl, sym, ap, _∙_}
 use mathlib.Core.List.{List, [], _∷_, _++_, append-nil}
 use mathlib.Core.Bool.{Bool, true, false}
-use Prim.Native.Nat.{ℕ, _+_, _-_, _≤_, _<_}
+use Prim.Native.Nat.{ℕ, _+_, _-_, _<_}
 use native.Mathlib.Omega.{arith}
 use lib.Dec.{eqb}
+use lib.ListN.{replicate}
 use borrow.Author.Tests.{eq-eqb, ne-eqb}
 use Rattle.numbers_bits.specs.Bit.{inSet, added}
 use Rattle.numbers_bits.specs.Marked.{Marked}
-use Rattle.numbers_bits.specs.laws.Marked.{marked-more, marked-skip}
+use Rattle.numbers_bits.specs.laws.Marked.{marked-none, marked-more, marked-past}
 use Rattle.rules_walks.specs.Choose.{choose}
 use Rattle.rules_walks.specs.laws.Choose.{choose-true, choose-false}
-use Rattle.rules_walks.specs.First.{Sought, one, missing}
+use Rattle.rules_walks.specs.First.{one}
 use Rattle.rules_tables.specs.Kind.{basic, interface, ofInput}
 use Rattle.rules_tables.specs.Frame.{framesOf, flagAt, fieldAt}
 use Rattle.rules_tables.specs.declared.Shape.{Shape}
 use Rattle.rules_tables.specs.Good.{Good}
-use Rattle.rules_tables.specs.Ids.{inputs, associations, variables, inputFrame, associationFrame, variableFrame}
+use Rattle.rules_tables.specs.Ids.{firstAssociation, inputs, associations, variables, inputFrame, associationFrame, variableFrame}
+use Rattle.rules_tables.specs.Owned.{belongs}
+use Rattle.table_index.specs.Leads.{Leads}
+use Rattle.moves_fire.specs.laws.Carrying.{speaks-belongs}
 use Rattle.rules_store.specs.Word.{value, buffer}
 use Rattle.rules_moves.specs.Partner.{inputOwner, partnerOutput}
-use Rattle.rules_moves.specs.Carry.{voice, speaks}
 use Rattle.rules_moves.specs.Associated.{joinsVariable, associated}
 use Rattle.rules_moves.specs.Take.{firedBy}
 use Rattle.rules_traces.specs.declared.Entry.{Entry}
@@ -28,7 +31,7 @@ use Rattle.rules_traces.specs.Entry.{entry}
 use Rattle.rules_traces.specs.Trace.{differing, finishedEntry, finishedAtOnce, startedEntry, selectedEntry, emittedEntry}
 use Rattle.moves_tell.specs.Told.{Told, Room}
 use Rattle.moves_tell.specs.laws.Told.{told-none, told-same, told-4, room-same, room-1, room-2, room-3, room-4}
-use Rattle.moves_tell.specs.Before.{Associates, joins, sampledEntry, passedFrom, passedEntries, takeEntries, takeEvents}
+use Rattle.moves_tell.specs.Before.{Associates, joins, sampledEntry, passedFrom, passedEntries, takeEvents}
 
 -- a variable that an association names has a place in the set
 pub joined-in : (T : List ℕ) (S : Shape) {j f v : ℕ} → Good T S → j < associations S → f ≡ associationFrame S j → v ≡ fieldAt T f 1 → v < 512
@@ -47,15 +50,21 @@ el-is T S i g l p q = rw (← p) q
 
 module _ (T : List ℕ) (S : Shape) (i : ℕ) where
   -- ---- the set of the variables that are associated
-  pub mark-more : (m m′ : List ℕ) (j : ℕ) {b : Bool} {f v : ℕ} → b ≡ speaks T S (voice ofInput i) j → b ≡ true → f ≡ associationFrame S j → v ≡ fieldAt T f 1 → v < 512 → m′ ≡ added m v
-      → Marked (joins T S i) 16 m j → Marked (joins T S i) 16 m′ (j + 1)
+  -- an association that speaks joins its variable, and those that do not speak none
+  joins-none : (j x : ℕ) → belongs T (firstAssociation S) ofInput i j ≡ false → joins T S i x j ≡ false
   unfolding joinsVariable
-  mark-more m m′ j {b} {f} {v} h e p q l u w =
-      rw u (marked-more (joins T S i) 16 m j v w (omega arith) (λ x _. rw (sym h ∙ e, q, p)))
+  joins-none j x e = rw (speaks-belongs T S ofInput i j (omega arith) ∙ e)
 
-  pub mark-skip : (m m′ : List ℕ) (j : ℕ) {b : Bool} → b ≡ speaks T S (voice ofInput i) j → b ≡ false → m′ ≡ m → Marked (joins T S i) 16 m j → Marked (joins T S i) 16 m′ (j + 1)
+  pub mark-first : {b n : ℕ} → Leads (belongs T (firstAssociation S) ofInput i) 0 b n → Marked (joins T S i) 16 (replicate 16 0) b
+  mark-first {b} l = marked-past (joins T S i) 16 (replicate 16 0) 0 b (l .from) (λ j u v x. joins-none j x (l .skipped j u v)) (marked-none (joins T S i) 16)
+
+  pub mark-more : (m m′ : List ℕ) (j : ℕ) {f v b n : ℕ} → belongs T (firstAssociation S) ofInput i j ≡ true → Leads (belongs T (firstAssociation S) ofInput i) (j + 1) b n → f ≡ associationFrame S j
+      → v ≡ fieldAt T f 1 → v < 512 → m′ ≡ added m v → Marked (joins T S i) 16 m j → Marked (joins T S i) 16 m′ b
   unfolding joinsVariable
-  mark-skip m m′ j h e u w = rw u (marked-skip (joins T S i) 16 m j w (λ x _. rw (sym h ∙ e)))
+  mark-more m m′ j {f} {v} {b} h l p q few u w =
+      rw u
+      (marked-past (joins T S i) 16 (added m v) (j + 1) b (l .from) (λ k a z x. joins-none k x (l .skipped k a z))
+      (marked-more (joins T S i) 16 m j v w (omega arith) (λ x _. rw (speaks-belongs T S ofInput i j (omega arith) ∙ h, q, p))))
 
   pub mark-end : (m : List ℕ) (j : ℕ) → j ≡ associations S → Marked (joins T S i) 16 m j → Associates T S i m
   mark-end m j e w = record { long = w .long; at = λ v l. rw (← e) (w .at v (omega arith)) }

@@ -1,5 +1,5 @@
 -- Laws of bits: what a bit that is set leaves at every place.
-use mathlib.Core.Path.{_≡_, refl, ap}
+use mathlib.Core.Path.{_≡_, refl, ap, _∙_}
 use mathlib.Core.List.{List}
 use mathlib.Core.Bool.{true, false}
 use mathlib.Core.Logic.{_⊎_, ⊎-elim}
@@ -13,7 +13,7 @@ use lib.ListN.{length, getD, set, replicate, length-set, length-replicate, getD-
 use lib.Seq.{getD-set-same, getD-set-other}
 use borrow.Author.Tests.{eq-eqb}
 use Rattle.rules_walks.specs.laws.Pick.{tri}
-use Rattle.numbers_bits.specs.Bit.{bitAt, raised, inSet, added}
+use Rattle.numbers_bits.specs.Bit.{bitAt, raised, inSet, added, Clear}
 
 pub length-added : (m : List ℕ) (i : ℕ) → length (added m i) ≡ length m
 unfolding added
@@ -57,14 +57,32 @@ bit-none j = rw (zero-div (2 ^ j)) refl
 
 -- ---- sets
 
-pub in-none : (words i : ℕ) → inSet (replicate words 0) i ≡ false
-unfolding inSet
-in-none words i = rw (zeros (tri (i / 32) words)) (bit-none (i % 32))
+pub clear-none : (words : ℕ) → Clear (replicate words 0)
+clear-none words = record { zero = λ p. zeros p (tri p words) }
   where
-    zeros : (i / 32 < words) ⊎ ((i / 32 ≡ words) ⊎ (words < i / 32)) → _≡_ {A = ℕ} (getD (replicate words 0) (i / 32) 0) 0
-    zeros c =
-        ⊎-elim (λ h. getD-replicate words (i / 32) 0 0 h)
-        (λ w. List·getD-eq-default (replicate words 0) 0 {n = i / 32} (⊎-elim (λ e. omega (arith, length-replicate {A = ℕ} words 0)) (λ g. omega (arith, length-replicate {A = ℕ} words 0)) w)) c
+    zeros : (p : ℕ) → (p < words) ⊎ ((p ≡ words) ⊎ (words < p)) → _≡_ {A = ℕ} (getD (replicate words 0) p 0) 0
+    zeros p c =
+        ⊎-elim (λ h. getD-replicate words p 0 0 h)
+        (λ w. List·getD-eq-default (replicate words 0) 0 {n = p} (⊎-elim (λ e. omega (arith, length-replicate {A = ℕ} words 0)) (λ g. omega (arith, length-replicate {A = ℕ} words 0)) w)) c
+
+-- words below the list's length that are 0 are all of them
+pub clear-all : (m : List ℕ) (n : ℕ) → length m ≤ n → ((p : ℕ) → p < n → _≡_ {A = ℕ} (getD m p 0) 0) → Clear m
+clear-all m n l h =
+    record { zero = λ p. ⊎-elim (h p) (λ w. List·getD-eq-default m 0 {n = p} (⊎-elim (λ e. omega arith) (λ g. omega arith) w)) (tri p n) }
+
+-- one word more
+pub clear-more : (m : List ℕ) (n : ℕ) → n < length m → ((p : ℕ) → p < n → _≡_ {A = ℕ} (getD m p 0) 0)
+    → (p : ℕ) → p < n + 1 → _≡_ {A = ℕ} (getD (set m n 0) p 0) 0
+clear-more m n l h p q =
+    ⊎-elim (λ lt. getD-set-other m n p 0 0 (λ e. omega arith) ∙ h p lt)
+    (⊎-elim (λ e. rw e (getD-set-same m n 0 0 l)) (λ g. absurd (omega arith))) (tri p n)
+
+pub in-clear : (m : List ℕ) (i : ℕ) → Clear m → inSet m i ≡ false
+unfolding inSet
+in-clear m i w = rw (w .zero (i / 32)) (bit-none (i % 32))
+
+pub in-none : (words i : ℕ) → inSet (replicate words 0) i ≡ false
+in-none words i = in-clear (replicate words 0) i (clear-none words)
 
 pub in-added-same : (m : List ℕ) (i : ℕ) → i / 32 < length m → inSet (added m i) i ≡ true
 unfolding inSet added

@@ -2,26 +2,41 @@
 use mathlib.Core.Path.{_≡_, sym, _∙_}
 use mathlib.Core.List.{List}
 use mathlib.Core.Bool.{Bool, true, false}
-use Prim.Native.Nat.{ℕ, _+_, _/_, _<_}
+use Prim.Native.Nat.{ℕ, zero, suc, _+_, _/_, _≤_, _<_}
+use native.Mathlib.Nat.{eq-or-lt-of-le, le-of-suc-le-suc}
+use native.Mathlib.Numerals.{add-one}
+use native.Mathlib.Omega.{arith}
 use lib.Dec.{eqb}
-use lib.ListN.{replicate, length-replicate}
+use lib.ListN.{length, replicate, length-replicate}
 use borrow.Author.Tests.{eqb-true, eqb-false}
 use mathlib.Core.Logic.{⊎-elim}
 use Rattle.rules_walks.specs.Pick.{either}
 use Rattle.rules_walks.specs.laws.Pick.{either-true, either-false, test-cases}
 use Rattle.rules_walks.specs.All.{anyTo}
-use Rattle.rules_walks.specs.laws.All.{any-none, any-next}
-use Rattle.numbers_bits.specs.Bit.{inSet, added}
-use Rattle.numbers_bits.specs.laws.Bit.{in-none, in-added-same, in-added-other, length-added}
+use Rattle.rules_walks.specs.laws.All.{any-none, any-next, any-no}
+use Rattle.numbers_bits.specs.Bit.{inSet, added, Clear}
+use Rattle.numbers_bits.specs.laws.Bit.{in-none, in-clear, in-added-same, in-added-other, length-added}
 use Rattle.numbers_bits.specs.Marked.{Marked}
 
 module _ (p : ℕ → ℕ → Bool) (words : ℕ) where
   pub marked-none : Marked p words (replicate words 0) 0
   marked-none = record { long = length-replicate {A = ℕ} words 0; at = λ i h. in-none words i ∙ sym (any-none (p i)) }
 
+  -- in an empty set, none of the first n numbers having a mark
+  pub marked-from : (m : List ℕ) (n : ℕ) → length m ≡ words → Clear m → ((i g : ℕ) → g < n → p i g ≡ false) → Marked p words m n
+  marked-from m n e w h = record { long = e; at = λ i l. in-clear m i w ∙ sym (any-no (p i) n (h i)) }
+
   -- number n has no mark that the set could hold
   pub marked-skip : (m : List ℕ) (n : ℕ) → Marked p words m n → ((i : ℕ) → i / 32 < words → p i n ≡ false) → Marked p words m (n + 1)
   marked-skip m n w h = record { long = w .long; at = λ i l. rw (any-next (p i) n, h i l, either-false) (w .at i l) }
+
+  -- numbers from a to b have no mark that the set could hold
+  pub marked-past : (m : List ℕ) (a b : ℕ) → a ≤ b → ((j : ℕ) → a ≤ j → j < b → (i : ℕ) → p i j ≡ false) → Marked p words m a → Marked p words m b
+  marked-past m a zero l h w = let e : a ≡ 0 = omega arith in rw (← e) w
+  marked-past m a (suc b) l h w =
+      ⊎-elim (λ e. rw (← e) w)
+      (λ lt. rw (← add-one b) (marked-skip m b (marked-past m a b (le-of-suc-le-suc lt) (λ j u v. h j u (omega arith)) w) (λ i _. h b (le-of-suc-le-suc lt) (omega arith) i)))
+      (eq-or-lt-of-le l)
 
   -- number n has the mark x alone
   pub marked-more : (m : List ℕ) (n x : ℕ) → Marked p words m n → x / 32 < words → ((i : ℕ) → i / 32 < words → p i n ≡ eqb x i) → Marked p words (added m x) (n + 1)

@@ -7,7 +7,7 @@ use native.Mathlib.Nat.{eq-or-lt-of-le, le-of-suc-le-suc, not-suc-le-zero}
 use native.Mathlib.Omega.{arith}
 use native.Mathlib.Numerals.{add-one}
 use Rattle.rules_walks.specs.Pick.{both, either}
-use Rattle.rules_walks.specs.laws.Pick.{both-false, both-left, both-right, either-true, either-cases, clash}
+use Rattle.rules_walks.specs.laws.Pick.{both-false, both-left, both-right, either-true, either-cases, clash, tri}
 use Rattle.rules_walks.specs.All.{allTo, anyTo, Witness}
 
 module _ (p : ℕ → Bool) where
@@ -43,6 +43,10 @@ module _ (p : ℕ → Bool) where
 
   pub all-less : (n m : ℕ) → m ≤ n → allTo p n ≡ true → allTo p m ≡ true
   all-less n m l h = all-intro m (λ i q. all-at n i (omega arith) h)
+
+  -- where the numbers below m pass, and those from m on too, all do
+  pub all-rest : (m n : ℕ) → allTo p m ≡ true → ((i : ℕ) → m ≤ i → i < n → p i ≡ true) → allTo p n ≡ true
+  all-rest m n h r = all-intro n (λ i l. ⊎-elim (λ lt. all-at m i lt h) (λ w. r i (⊎-elim (λ e. omega arith) (λ g. omega arith) w) l) (tri i m))
 
   pub any-none : anyTo p 0 ≡ false
   unfolding anyTo

@@ -61,6 +61,17 @@ module _ (p : ℕ → Bool) where
   pub held-end : (n : ℕ) → allTo p n ≡ true → n ≡ heldTo p n
   held-end n h = held-is n n (record { within = omega arith; before = λ i q. all-at p n i q h; stopped = λ l. absurd (omega arith) })
 
+-- tests that agree below the bound stop at the same number
+pub held-same : (p q : ℕ → Bool) (n : ℕ) → ((i : ℕ) → i < n → p i ≡ q i) → heldTo p n ≡ heldTo q n
+held-same p q n h =
+    let w = held p n in
+    held-is q n (heldTo p n)
+    (record {
+      within = w .within;
+      before = λ i l. sym (h i (let a = w .within in omega arith)) ∙ w .before i l;
+      stopped = λ l. sym (h (heldTo p n) l) ∙ w .stopped l;
+    })
+
 -- two passes, the second over what the first left, are one pass with both tests
 pub held-both : (p q : ℕ → Bool) (n : ℕ) → heldTo q (heldTo p n) ≡ heldTo (λ i. both (p i) (q i)) n
 held-both p q n = held-is (λ i. both (p i) (q i)) n (heldTo q (heldTo p n)) (join (held p n) (held q (heldTo p n)))

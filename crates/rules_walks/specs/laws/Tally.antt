@@ -7,10 +7,10 @@ use native.Mathlib.Omega.{arith}
 use lib.Dec.{eqb, ltb}
 use lib.ListN.{length, getD, set, replicate, length-set, length-replicate, getD-replicate, List·getD-eq-default}
 use lib.Seq.{getD-set-same, getD-set-other}
-use borrow.Author.Tests.{lt-ltb, eqb-true, eqb-false}
+use borrow.Author.Tests.{lt-ltb, ne-eqb, eqb-true, eqb-false}
 use Rattle.rules_walks.specs.Pick.{pick}
 use Rattle.rules_walks.specs.laws.Pick.{by-test, tri}
-use Rattle.rules_walks.specs.laws.Count.{count-none, count-next, count-le}
+use Rattle.rules_walks.specs.laws.Count.{count-none, count-next, count-le, count-rest}
 use Rattle.rules_walks.specs.Tally.{tallyTo, Tallied, plusAt}
 
 module _ (key : ℕ → ℕ) (size : ℕ) where
@@ -34,6 +34,14 @@ module _ (key : ℕ → ℕ) (size : ℕ) where
           (λ e.
           by-test (λ (l : List ℕ). getD l i 0 ≡ tallyTo key i n) (ltb (key n) (length m)) _ _
           (λ _. getD-set-other m (key n) i _ 0 (λ z. eqb-false (key n) i e (sym z)) ∙ w .at i h) (λ _. w .at i h)))
+
+  -- numbers whose keys have no entry add nothing
+  pub tallied-rest : (m : List ℕ) (a n : ℕ) → a ≤ n → ((i : ℕ) → a ≤ i → i < n → size ≤ key i) → Tallied key size m a → Tallied key size m n
+  tallied-rest m a n l h w =
+      record {
+        long = w .long;
+        at = λ i q. w .at i q ∙ sym (count-rest (λ f. eqb (key f) i) a n l (λ f x y. ne-eqb (key f) i (λ e. let z = h f x y in omega arith)));
+      }
 
   -- no entry is above the number of numbers, also where there is no entry
   pub tallied-small : (m : List ℕ) (n i : ℕ) → Tallied key size m n → getD m i 0 ≤ n

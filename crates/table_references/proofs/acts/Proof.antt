@@ -17,7 +17,7 @@ unfolding acts
 returns c = rw (← c .before .before .field .ensures .0, ← c .before .exists .ensures, not-true (c .before .exists .result) (c .if1 .taken))
 
 owner-requires : tie.Need-owner-requires
-owner-requires c κs = (c .before .before .before .before .pre .0, search needs, ltb-true _ _ (sym (c .before .exists .ensures) ∙ not-false _ (c .if1 .left)), search needs)
+owner-requires c κs = (c .before .before .before .before .before .pre .0, search needs, ltb-true _ _ (sym (c .before .exists .ensures) ∙ not-false _ (c .if1 .left)), c .before .before .before .before .before .pre .2)
 
 field-requires-2 : tie.Need-field-requires-2
 field-requires-2 c κs = search needs

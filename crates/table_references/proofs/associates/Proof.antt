@@ -24,7 +24,7 @@ field-requires : tie.Need-field-requires
 field-requires c κs = search needs
 
 owner-requires : tie.Need-owner-requires
-owner-requires c κs = (c .before .before .before .before .before .before .pre .0, search needs, rw (c .field .ensures .0) (joined-exists _ _ 3 1 (sym (c .before .before .joins2 .ensures) ∙ c .before .if2 .taken)), search needs)
+owner-requires c κs = (c .before .before .before .before .before .before .before .pre .0, search needs, rw (c .field .ensures .0) (joined-exists _ _ 3 1 (sym (c .before .before .joins2 .ensures) ∙ c .before .if2 .taken)), search needs)
 
 sort-is-requires : tie.Need-sort-is-requires
 sort-is-requires c κs = search needs

@@ -20,7 +20,7 @@ owned-requires c κs = search needs
 
 returns-2 : tie.Need-returns-2
 unfolding initialState
-returns-2 c = rw (← c .before .before .before .flag .ensures .0, eq-eqb _ _ (c .before .before .if1 .left), ← c .before .field .ensures .0, c .before .before .before .before .before .pre .2) (c .owned .ensures)
+returns-2 c = rw (← c .before .before .before .flag .ensures .0, eq-eqb _ _ (c .before .before .if1 .left), ← c .before .field .ensures .0, c .before .before .before .before .before .before .pre .2) (c .owned .ensures)
 
 pub initial-state-spec : {M : Type 1} → statement M
 initial-state-spec =

@@ -7,7 +7,7 @@ use Rattle.table_references.proofs.uses_own.Tie as tie
 
 returns : tie.Need-returns
 unfolding usesOwn
-returns c = rw (← c .before .before .pre .3, le-leb _ _ (c .if1 .taken))
+returns c = rw (← c .before .before .before .pre .3, le-leb _ _ (c .if1 .taken))
 
 field-requires : tie.Need-field-requires
 field-requires c κs = search needs
@@ -17,7 +17,7 @@ owned-requires c κs = search needs
 
 returns-2 : tie.Need-returns-2
 unfolding usesOwn
-returns-2 c = rw (← c .before .before .before .before .pre .3, lt-leb _ _ (c .before .before .if1 .left), ← c .before .field .ensures .0) (c .owned .ensures)
+returns-2 c = rw (← c .before .before .before .before .before .pre .3, lt-leb _ _ (c .before .before .if1 .left), ← c .before .field .ensures .0) (c .owned .ensures)
 
 pub uses-own-spec : {M : Type 1} → statement M
 uses-own-spec = tie.close (tie.spec returns field-requires owned-requires returns-2)

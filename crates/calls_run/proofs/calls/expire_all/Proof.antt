@@ -14,10 +14,10 @@ use Rattle.calls_run.proofs.calls.expire_all.Tie as tie
 use Rattle.rules_tables.specs.Ids.{elements}
 
 abbrev Inv-loop : tie.InvT-loop
-Inv-loop t store₀ s to n el₀ store el = (el ≤ elements s) × (store ≡ upTo (expire t s to) el store₀) × (length store ≡ length store₀)
+Inv-loop t ix store₀ s to n el₀ store el = (el ≤ elements s) × (store ≡ upTo (expire t s to) el store₀) × (length store ≡ length store₀)
 
 abbrev μ-loop : tie.MeasureT-loop
-μ-loop t store₀ s to n el₀ store el = elements s - el
+μ-loop t ix store₀ s to n el₀ store el = elements s - el
 
 loop-holds : tie.Need-loop-holds Inv-loop μ-loop
 loop-holds c = (search needs, upTo-none _ _, refl)

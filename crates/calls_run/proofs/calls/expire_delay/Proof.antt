@@ -26,7 +26,7 @@ returns : tie.Need-returns
 returns c = output-missing _ _ _ _ _ _ (c .before .before .before .before .before .before .before .outputs .ensures) (c .before .before .before .before .before .before .nth .ensures) (c .before .before .before .before .enum-told .given .1) (c .before .before .put-due .ensures)
 
 fire-requires : tie.Need-fire-requires
-fire-requires c κs = (c .before .before .before .before .before .before .before .before .pre .0, output-known _ _ _ _ _ (c .before .before .before .before .before .outputs .ensures) (c .before .before .before .before .nth .ensures) (c .before .before .o .given .1))
+fire-requires c κs = (c .before .before .before .before .before .before .before .before .pre .0, c .before .before .before .before .before .before .before .before .pre .2, output-known _ _ _ _ _ (c .before .before .before .before .before .outputs .ensures) (c .before .before .before .before .nth .ensures) (c .before .before .o .given .1))
 
 put-due-requires-2 : tie.Need-put-due-requires-2
 put-due-requires-2 c κs = search needs

@@ -1,113 +1,94 @@
--- `give_all` meets its contract. The invariant: k counts the associations passed that speak, the store is what they made of it, and the set has the variables that
-use Rattle.calls_run.proofs.calls.give_all.Statement.{statement}
-use Prim.Native.Nat.{ℕ, _≤_, _<_, _-_, _+_}
-use native.Mathlib.Omega.{arith}
-use mathlib.Core.Path.{_≡_, refl, sym, ap, _∙_}
-use mathlib.Core.Logic.{⊎-elim}
-use lib.ListN.{length}
-use denote.Ref.{now}
-use Rattle.calls_run.proofs.Turns.{give-one, give-none}
-use Rattle.rules_calls.specs.Calls.{give, valueCount}
-use Rattle.moves_fire.specs.Carrying.{marks}
-use Rattle.moves_fire.specs.laws.Carrying.{carry-more, carry-skip, carry-end, carried-own, carried-none}
-use Rattle.rules_moves.specs.Carry.{voice, speaks}
-use Rattle.rules_tables.specs.Ids.{associations}
-use Rattle.numbers_bits.specs.Marked.{Marked}
-use Rattle.numbers_bits.specs.laws.Marked.{marked-none}
-use Rattle.rules_walks.specs.Walk.{upTo}
-use Rattle.rules_walks.specs.laws.Walk.{upTo-none, upTo-more, upTo-end}
-use Rattle.rules_walks.specs.Count.{countIf}
-use Rattle.rules_walks.specs.laws.Count.{count-none, count-hit, count-miss, count-past}
-use borrow.Author.Needs.{needs}
-use Rattle.rules_tables.specs.Kind.{ofOutput}
+use Rattle.table_index.specs.laws.Leads.{leads-start, leads-more, leads-count}
 use Rattle.moves_take.specs.laws.Known.{at-frame}
+use Rattle.rules_tables.specs.Kind.{ofOutput}
+use Rattle.rules_walks.specs.laws.Count.{count-none, count-hit, count-past}
+use Rattle.rules_walks.specs.Count.{countIf}
+use Rattle.rules_walks.specs.laws.Walk.{upTo-end}
+use Rattle.rules_walks.specs.Walk.{upTo}
+use Rattle.rules_tables.specs.Ids.{associations}
+use Rattle.rules_moves.specs.Carry.{voice, speaks}
+use Rattle.rules_calls.specs.Calls.{give, valueCount}
+use Rattle.calls_run.proofs.Turns.{give-one, give-idle, voices, next-voice}
+use Prim.Native.Nat.{ℕ, _≤_, _<_, _-_, _+_}
+use denote.Ref.{now}
+use lib.ListN.{length}
+use mathlib.Core.Bool.{true}
+use mathlib.Core.Path.{_≡_, refl, sym, ap, _∙_}
+use borrow.Author.Needs.{needs}
+use native.Mathlib.Omega.{arith}
+use Rattle.calls_run.proofs.calls.give_all.Statement.{statement}
 use Rattle.calls_run.proofs.calls.give_all.Tie as tie
+use Rattle.calls_run.proofs.calls.give_all.Reads as reads
+use Rattle.calls_run.proofs.calls.give_all.Lts as lts
+use Rattle.store_words.proofs.shape.association_frame.Reads as association-frame-reads
+use Rattle.store_words.proofs.shape.associations.Reads as associations-reads
+use Rattle.store_words.proofs.word.put_value.Reads as put-value-reads
+use Rattle.table_frames.proofs.frame.field.Reads as field-reads
+use Rattle.table_index.proofs.read.first_association.Reads as first-association-reads
+use Rattle.table_index.proofs.read.next_association.Reads as next-association-reads
 
 abbrev Inv-loop : tie.InvT-loop
-Inv-loop t store₀ s o values n w m₀ k₀ j₀ store m k j =
-    (j ≤ associations s) × (k ≡ countIf (speaks t s (voice ofOutput o)) j) × (store ≡ upTo (give t s o values) j store₀) × (length store ≡ length store₀) × (k ≤ j) × Marked (marks t s (voice ofOutput o)) 16 m j
+Inv-loop t ix store₀ shape o values n k₀ j₀ store k j = (j ≤ associations shape) × (k ≡ countIf (speaks t shape (voice ofOutput o)) j) × (store ≡ upTo (give t shape o values) j store₀) × (length store ≡ length store₀) × (k ≤ j) × (j < associations shape → speaks t shape (voice ofOutput o) j ≡ true)
 
 abbrev μ-loop : tie.MeasureT-loop
-μ-loop t store₀ s o values n w m₀ k₀ j₀ store m k j = associations s - j
+μ-loop t ix store₀ shape o values n k₀ j₀ store k j = associations shape - j
 
+-- src/calls.rt:129:9
 associations-requires : tie.Need-associations-requires Inv-loop μ-loop
 associations-requires c κs = search needs
 
+-- src/calls.rt:131:9
+first-association-requires : tie.Need-first-association-requires Inv-loop μ-loop
+first-association-requires c κs = (c .before .before .before .before .pre .2, omega arith)
+
+-- src/calls.rt:132:5
 loop-holds : tie.Need-loop-holds Inv-loop μ-loop
-loop-holds c = (search needs, sym (count-none _), upTo-none _ _, refl, search needs, marked-none _ _)
+loop-holds c = let l = voices _ _ _ (c .first-association .ensures) in (l .within, sym (leads-count l ∙ count-none _), leads-start l _ _ (λ i q x. give-idle _ _ _ _ i q x) refl, refl, omega arith, l .met)
 
-speaks-requires : tie.Need-speaks-requires Inv-loop μ-loop
-speaks-requires c κs = search needs
-
+-- src/calls.rt:133:26
 association-frame-requires : tie.Need-association-frame-requires Inv-loop μ-loop
 association-frame-requires c κs = search needs
 
+-- src/calls.rt:133:13
 field-requires : tie.Need-field-requires Inv-loop μ-loop
 field-requires c κs = search needs
 
+-- src/calls.rt:134:36
 mul-put-value : tie.Need-mul-put-value Inv-loop μ-loop
 mul-put-value c = search needs
 
+-- src/calls.rt:134:36
 shared-slice-read-put-value : tie.Need-shared-slice-read-put-value Inv-loop μ-loop
 unfolding valueCount
-shared-slice-read-put-value c =
-    let l = c .before .before .before .before .before .before .before .loop in
-    let lt : l .j < associations (c .before .before .before .before .before .before .before .before .before .before .before .before .args .shape) = omega arith in
-    let p = count-past (speaks (now (c .before .before .before .before .before .before .before .before .before .before .before .before .args .t)) (c .before .before .before .before .before .before .before .before .before .before .before .before .args .shape) (voice ofOutput (c .before .before .before .before .before .before .before .before .before .before .before .before .args .o))) (l .j) (associations (c .before .before .before .before .before .before .before .before .before .before .before .before .args .shape)) lt (sym (c .before .before .before .before .before .speaks .ensures) ∙ c .before .before .before .before .if1 .taken) in
-    let q = c .before .before .before .before .before .before .before .before .before .before .before .before .pre .1 in
-    omega arith
+shared-slice-read-put-value c = let l = c .before .before .before .before .before .loop in let lt : l .j < associations (c .before .before .before .before .before .before .before .before .before .before .before .args .shape) = omega arith in let p = count-past (speaks (now (c .before .before .before .before .before .before .before .before .before .before .before .args .t)) (c .before .before .before .before .before .before .before .before .before .before .before .args .shape) (voice ofOutput (c .before .before .before .before .before .before .before .before .before .before .before .args .o))) (l .j) (associations (c .before .before .before .before .before .before .before .before .before .before .before .args .shape)) lt (l .inv .5 lt) in let q = c .before .before .before .before .before .before .before .before .before .before .before .pre .1 in let k = l .inv .1 in omega arith
 
+-- src/calls.rt:134:9
 put-value-requires : tie.Need-put-value-requires Inv-loop μ-loop
 put-value-requires c κs = search needs
 
-slice-aggregate-mark : tie.Need-slice-aggregate-mark Inv-loop μ-loop
-slice-aggregate-mark c = search needs
-
-mark-requires : tie.Need-mark-requires Inv-loop μ-loop
-mark-requires c κs =
-    let lt : c .before .before .before .before .before .before .before .before .before .before .before .loop .j < associations (c .before .before .before .before .before .before .before .before .before .before .before .before .before .before .before .before .args .shape) = omega arith in
-    let g = c .before .before .before .before .before .before .before .before .before .before .before .before .before .before .before .before .pre .0 in
-    omega (arith, at-frame _ 1 (c .before .before .before .before .before .before .before .association-frame .ensures .is) (c .before .before .before .before .before .before .field .ensures .0), g .association-variable (c .before .before .before .before .before .before .before .before .before .before .before .loop .j) lt, g .few-variables, c .before .before .before .before .before .before .before .before .before .before .before .loop .inv .5 .long)
-
+-- src/calls.rt:135:9
 add-k : tie.Need-add-k Inv-loop μ-loop
 add-k c = search needs
 
-add-j : tie.Need-add-j Inv-loop μ-loop
-add-j c = search needs
+-- src/calls.rt:136:9
+next-association-requires : tie.Need-next-association-requires Inv-loop μ-loop
+next-association-requires c κs = (c .before .before .before .before .before .before .before .before .before .before .before .before .before .before .pre .2, omega arith)
 
+-- src/calls.rt:132:5
 loop-less : tie.Need-loop-less Inv-loop μ-loop
-loop-less c = search needs
+loop-less c = let l = c .before .before .before .before .before .before .before .before .before .loop in let h = l .inv .5 (omega arith) in let q = next-voice _ _ _ _ (c .next-association .ensures) h .from in omega arith
 
+-- src/calls.rt:132:5
 loop-again : tie.Need-loop-again Inv-loop μ-loop
-loop-again c =
-    let l = c .before .before .before .loop in
-    let h = c .before .speaks .ensures in
-    let g = c .before .before .before .before .before .before .before .before .pre .0 in
-    let lt : l .j < associations (c .before .before .before .before .before .before .before .before .args .shape) = omega arith in
-    ⊎-elim
-    (λ w. (
-      omega arith,
-      w .13 ∙ ap (λ (n : ℕ). n + 1) (l .inv .1) ∙ sym (count-hit _ (l .j) (sym h ∙ w .0 .taken)),
-      upTo-more _ _ _ _ _ (l .inv .2) (give-one _ _ _ _ _ _ _ h (w .0 .taken) (at-frame _ 1 (w .1 .ensures .is) (w .2 .ensures .0)) (l .inv .1) (w .11 ∙ w .5 .ensures)),
-      omega (arith, ap length (w .11)),
-      omega arith,
-      carry-more _ _ _ (l .m) _ (l .j) (at-frame _ 1 (w .1 .ensures .is) (w .2 .ensures .0) ∙ carried-own _ _ _ (l .j) (sym h ∙ w .0 .taken)) (let v = g .association-variable (l .j) lt in omega (arith, at-frame _ 1 (w .1 .ensures .is) (w .2 .ensures .0), g .few-variables)) (w .12 ∙ w .9 .ensures .1) (l .inv .5),
-    ))
-    (λ w. (
-      omega arith,
-      w .3 ∙ l .inv .1 ∙ sym (count-miss _ (l .j) (sym h ∙ w .0 .left)),
-      upTo-more _ _ _ _ _ (l .inv .2) (give-none _ _ _ _ _ _ _ h (w .0 .left) (w .1)),
-      omega (arith, ap length (w .1)),
-      omega arith,
-      carry-skip _ _ _ (l .m) _ (l .j) (carried-none _ _ _ (l .j) (sym h ∙ w .0 .left)) (omega arith) (w .2) (l .inv .5),
-    ))
-    (c .if1 .came)
+loop-again c = let l = c .before .before .before .before .before .before .before .before .before .loop in let h = l .inv .5 (omega arith) in let w = next-voice _ _ _ _ (c .next-association .ensures) h in (w .within, ap (λ (m : ℕ). m + 1) (l .inv .1) ∙ sym (leads-count w ∙ count-hit _ (l .j) h), leads-more w _ _ _ _ (λ i q x. give-idle _ _ _ _ i q x) refl (l .inv .2) (give-one _ _ _ _ _ _ _ h (at-frame _ 1 (c .before .before .before .before .before .before .before .association-frame .ensures .is) (c .before .before .before .before .before .before .field .ensures .0)) (l .inv .1) (c .before .before .before .put-value .ensures)), omega (arith, l .inv .3), (let f = w .from in let z = l .inv .4 in omega arith), w .met)
 
+-- src/calls.rt:125:1
 same-length : tie.Need-same-length Inv-loop μ-loop
 same-length c = search needs
 
+-- src/calls.rt:125:1
 returns : tie.Need-returns Inv-loop μ-loop
-returns c = (upTo-end _ _ _ _ _ (c .before .loop .inv .2) (omega arith), carry-end _ _ _ _ _ (omega arith) (c .before .loop .inv .5))
+returns c = upTo-end _ _ _ _ _ (c .before .loop .inv .2) (let l = c .before .loop in omega arith)
 
 pub give-all-spec : {M : Type 1} → statement M
 give-all-spec =
@@ -116,17 +97,15 @@ give-all-spec =
     Inv-loop
     μ-loop
     associations-requires
+    first-association-requires
     loop-holds
-    speaks-requires
     association-frame-requires
     field-requires
     mul-put-value
     shared-slice-read-put-value
     put-value-requires
-    slice-aggregate-mark
-    mark-requires
     add-k
-    add-j
+    next-association-requires
     loop-less
     loop-again
     same-length

@@ -1,5 +1,4 @@
 -- `asked` meets its contract: no move, no room, no room for the trace where there is one, no budget, in this order.
-use native.Mathlib.Omega.{arith}
 use borrow.Author.Tests.{not-true, not-false}
 use Rattle.moves_tell.specs.laws.Telling.{is-good, is-ready}
 use Rattle.calls_run.proofs.Tracing.{no-move, no-room, plain-spent, no-space, traced-spent}

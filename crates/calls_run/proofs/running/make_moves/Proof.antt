@@ -14,10 +14,10 @@ use Rattle.calls_run.proofs.running.make_moves.Statement.{statement}
 use Rattle.calls_run.proofs.running.make_moves.Tie as tie
 
 abbrev Inv-loop : tie.InvT-loop
-Inv-loop t store₀ shape time budget out₀ trace₀ tracing n₀ at₀ p₀ store out trace n at p = Going t shape time budget store₀ out₀ store out n at × Tracked tracing t shape time store₀ trace₀ trace n p × (length store ≡ length store₀)
+Inv-loop t ix store₀ shape time budget out₀ trace₀ tracing n₀ at₀ p₀ store out trace n at p = Going t shape time budget store₀ out₀ store out n at × Tracked tracing t shape time store₀ trace₀ trace n p × (length store ≡ length store₀)
 
 abbrev μ-loop : tie.MeasureT-loop
-μ-loop t store₀ shape time budget out₀ trace₀ tracing n₀ at₀ p₀ store out trace n at p = budget - n
+μ-loop t ix store₀ shape time budget out₀ trace₀ tracing n₀ at₀ p₀ store out trace n at p = budget - n
 
 loop-holds : tie.Need-loop-holds Inv-loop μ-loop
 loop-holds c = (going-start _ _ _ _ _ _, tracked-start _ _ _ _ _ _, refl)
@@ -26,7 +26,7 @@ running-requires : tie.Need-running-requires Inv-loop μ-loop
 running-requires c κs = search needs
 
 next-move-requires : tie.Need-next-move-requires Inv-loop μ-loop
-next-move-requires c κs = c .before .before .before .before .before .before .before .before .pre .0 .is-lawful .is-good
+next-move-requires c κs = (c .before .before .before .before .before .before .before .before .pre .0 .is-lawful .is-good, c .before .before .before .before .before .before .before .before .pre .4)
 
 asked-requires : tie.Need-asked-requires Inv-loop μ-loop
 asked-requires c κs =
@@ -35,6 +35,7 @@ asked-requires c κs =
       telling _ _ _ _ _ _ (start .0) (start .1) (start .2) (start .3) (inv .0 .store) (c .before .before .before .running .ensures) (c .before .next-move .ensures .0),
       omega (arith, inv .0 .fits, inv .0 .long),
       inv .1 .fits,
+      c .before .before .before .before .before .before .before .before .before .before .pre .4,
     )
 
 tell-first-requires : tie.Need-tell-first-requires Inv-loop μ-loop
@@ -44,7 +45,7 @@ tell-first-requires c κs =
     let tells = telling _ _ _ _ _ _ (start .0) (start .1) (start .2) (start .3) (inv .0 .store) (c .before .before .before .before .before .before .before .before .running .ensures) (c .before .before .before .before .before .before .next-move .ensures .0) in
     let comes = comes-next _ _ _ (c .before .before .before .before .before .before .before .before .running .ensures) (c .before .before .before .before .before .before .next-move .ensures .0) in
     let space = space-if _ _ _ _ _ _ _ _ _ _ _ _ _ _ (inv .0) (inv .1) comes (sym (c .before .before .before .if1 .left) ∙ c .before .before .before .before .asked .ensures) in
-    (tells, first-room _ _ _ _ _ _ tells _ _ (space (c .before .before .if2 .taken)))
+    (tells, first-room _ _ _ _ _ _ tells _ _ (space (c .before .before .if2 .taken)), start .4)
 
 make-told-requires : tie.Need-make-told-requires Inv-loop μ-loop
 make-told-requires c κs =
@@ -61,6 +62,7 @@ make-told-requires c κs =
       room-left _ _ _ _ _ _ _ _ _ _ (inv .0) comes (run-goes-on _ _ _ _ _ _ _ _ _ _ _ _ _ _ (inv .0) (inv .1) comes go),
       (let h = first .fits in h),
       numbers-room _ _ _ _ _ _ tells _ _ _ first space,
+      start .4,
     )
 
 add-n : tie.Need-add-n Inv-loop μ-loop

@@ -1,29 +1,31 @@
--- `partner_variable` meets its contract: the rank among the input variables is looked for among the output variables.
+use Rattle.rules_moves.specs.Partner.{partnerVariable}
+use Rattle.moves_fire.proofs.Turns.{partner-one, partner-missing}
 use borrow.Author.Needs.{needs}
 use Rattle.moves_fire.proofs.partner.partner_variable.Statement.{statement}
-use Rattle.rules_moves.specs.Partner.{partnerVariable}
 use Rattle.moves_fire.proofs.partner.partner_variable.Tie as tie
+use Rattle.moves_fire.proofs.partner.partner_variable.Reads as reads
+use Rattle.moves_fire.proofs.partner.partner_variable.Lts as lts
+use Rattle.store_words.proofs.shape.variables.Reads as variables-reads
+use Rattle.table_index.proofs.read.variable_partner.Reads as variable-partner-reads
 
-variable-frame-requires : tie.Need-variable-frame-requires
-variable-frame-requires c κs = search needs
+-- src/partner.rt:51:9
+variable-partner-requires : tie.Need-variable-partner-requires
+variable-partner-requires c κs = search needs
 
-field-requires : tie.Need-field-requires
-field-requires c κs = search needs
-
-rank-requires : tie.Need-rank-requires
-rank-requires c κs = search needs
-
+-- src/partner.rt:52:12
 variables-requires : tie.Need-variables-requires
 variables-requires c κs = search needs
 
-nth-requires : tie.Need-nth-requires
-nth-requires c κs = search needs
-
+-- src/partner.rt:47:1
 returns : tie.Need-returns
 unfolding partnerVariable
-returns c = rw (← c .before .before .before .before .variable-frame .ensures .is, ← c .before .before .before .field .ensures .0, ← c .before .before .rank .ensures .0, ← c .before .variables .ensures) (c .nth .ensures)
+returns c = partner-one _ _ _ _ _ _ (c .before .before .variable-partner .ensures) (c .before .variables .ensures) (c .if1 .taken)
+
+-- src/partner.rt:47:1
+returns-2 : tie.Need-returns-2
+unfolding partnerVariable
+returns-2 c = partner-missing _ _ _ _ _ _ (c .before .before .variable-partner .ensures) (c .before .variables .ensures) (c .if1 .left)
 
 pub partner-variable-spec : {M : Type 1} → statement M
 partner-variable-spec =
-    tie.close
-    (tie.spec variable-frame-requires field-requires rank-requires variables-requires nth-requires returns)
+    tie.close (tie.spec variable-partner-requires variables-requires returns returns-2)

@@ -8,7 +8,7 @@ state-of-requires : tie.Need-state-of-requires
 state-of-requires c κs = search needs
 
 number-after-requires : tie.Need-number-after-requires
-number-after-requires c κs = (c .before .before .before .before .pre .0, c .before .before .before .before .pre .1, rw (← c .state-of .ensures) at (c .before .before .before .before .pre .2), c .before .before .before .before .pre .3)
+number-after-requires c κs = (c .before .before .before .before .pre .0, c .before .before .before .before .pre .4, c .before .before .before .before .pre .1, rw (← c .state-of .ensures) at (c .before .before .before .before .pre .2), c .before .before .before .before .pre .3)
 
 fire-event-requires : tie.Need-fire-event-requires
 fire-event-requires c κs = search needs

@@ -14,7 +14,7 @@ field-requires : tie.Need-field-requires
 field-requires c κs = search needs
 
 fire-requires : tie.Need-fire-requires
-fire-requires c κs = (c .before .before .before .before .before .before .pre .0, event-in _ _ _ 0 0 [] [] (at-frame _ 3 (c .before .before .before .action-frame .ensures .is) (c .before .before .field .ensures .0)) (c .before .before .before .before .before .before .pre .0) (c .before .before .before .before .before .before .pre .1) (c .before .if1 .taken))
+fire-requires c κs = (c .before .before .before .before .before .before .pre .0, c .before .before .before .before .before .before .pre .2, event-in _ _ _ 0 0 [] [] (at-frame _ 3 (c .before .before .before .action-frame .ensures .is) (c .before .before .field .ensures .0)) (c .before .before .before .before .before .before .pre .0) (c .before .before .before .before .before .before .pre .1) (c .before .if1 .taken))
 
 same-length : tie.Need-same-length
 same-length c = search needs

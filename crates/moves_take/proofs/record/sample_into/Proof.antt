@@ -1,107 +1,100 @@
--- `sample_into` meets its contract. The invariant: the associations passed are sampled, their values are written, and p is the place after them. A value
-use Rattle.moves_take.proofs.record.sample_into.Statement.{statement}
-use Prim.Native.Nat.{_≤_, _<_, _-_, _+_}
-use native.Mathlib.Omega.{arith}
-use mathlib.Core.Path.{_≡_, refl, sym, ap, _∙_}
-use mathlib.Core.Logic.{⊎-elim}
-use lib.ListN.{length}
-use mathlib.Core.List.{[]}
-use lib.Seq.{sets}
-use Rattle.moves_take.proofs.Written.{value-written, value-place, value-kept, place-kept, value-fits, values-end}
-use Rattle.moves_take.specs.laws.Known.{at-frame}
-use Rattle.moves_take.proofs.Turns.{sample-take, sample-skip}
-use Rattle.rules_moves.specs.Record.{valueOf, values}
+use Rattle.moves_take.proofs.Turns.{sample-take, sample-idle, voiced}
+use Rattle.table_index.specs.laws.Leads.{leads-start, leads-more}
 use Rattle.moves_take.specs.laws.Together.{sampled-value}
+use Rattle.moves_take.proofs.Written.{place-first, written-first, value-written, value-place, value-fits, values-end}
+use Rattle.rules_moves.specs.Record.{valueOf, values}
 use Rattle.rules_moves.specs.Take.{sample, samples}
+use lib.Seq.{sets}
+use mathlib.Core.List.{[]}
+use Rattle.moves_take.specs.laws.Known.{at-frame}
 use Rattle.store_words.specs.laws.Small.{small}
-use Rattle.rules_tables.specs.Ids.{associations}
+use Rattle.rules_tables.specs.Ids.{firstAssociation, associations}
+use Rattle.rules_walks.specs.laws.Walk.{upTo-end}
+use Rattle.rules_tables.specs.Owned.{belongs}
+use Rattle.rules_tables.specs.Kind.{ofInput}
 use Rattle.rules_walks.specs.Walk.{upTo}
-use Rattle.rules_walks.specs.laws.Walk.{upTo-more, upTo-end}
+use Prim.Native.Nat.{_≤_, _<_, _-_, _+_}
+use mathlib.Core.Bool.{true}
+use lib.ListN.{length}
+use mathlib.Core.Path.{_≡_, refl}
 use borrow.Author.Needs.{needs}
+use native.Mathlib.Omega.{arith}
+use Rattle.moves_take.proofs.record.sample_into.Statement.{statement}
 use Rattle.moves_take.proofs.record.sample_into.Tie as tie
+use Rattle.moves_take.proofs.record.sample_into.Reads as reads
+use Rattle.moves_take.proofs.record.sample_into.Lts as lts
+use Rattle.moves_take.proofs.sample.Reads as sample-reads
+use Rattle.numbers.proofs.bytes.put_word.Reads as put-word-reads
+use Rattle.store_words.proofs.shape.association_frame.Reads as association-frame-reads
+use Rattle.store_words.proofs.shape.associations.Reads as associations-reads
+use Rattle.table_frames.proofs.frame.field.Reads as field-reads
+use Rattle.table_index.proofs.read.first_association.Reads as first-association-reads
+use Rattle.table_index.proofs.read.next_association.Reads as next-association-reads
 
 abbrev Inv-loop : tie.InvT-loop
-Inv-loop t store₀ s i out₀ at n w p₀ j₀ store out p j =
-    (j ≤ associations s) × (store ≡ upTo (sample t s i) j store₀) × (length store ≡ length store₀)
-    × (p ≡ at + length (upTo (valueOf t s (samples t s i store₀) i) j [])) × (out ≡ sets out₀ at (upTo (valueOf t s (samples t s i store₀) i) j [])) × (length out ≡ length out₀)
+Inv-loop t ix store₀ shape i out₀ at n p₀ j₀ store out p j = (j ≤ associations shape) × (store ≡ upTo (sample t shape i) j store₀) × (length store ≡ length store₀)
+    × (p ≡ at + length (upTo (valueOf t shape (samples t shape i store₀) i) j [])) × (out ≡ sets out₀ at (upTo (valueOf t shape (samples t shape i store₀) i) j [])) × (length out ≡ length out₀)
+    × (j < associations shape → belongs t (firstAssociation shape) ofInput i j ≡ true)
 
 abbrev μ-loop : tie.MeasureT-loop
-μ-loop t store₀ s i out₀ at n w p₀ j₀ store out p j = associations s - j
+μ-loop t ix store₀ shape i out₀ at n p₀ j₀ store out p j = associations shape - j
 
+-- src/record.rt:104:9
 associations-requires : tie.Need-associations-requires Inv-loop μ-loop
 associations-requires c κs = search needs
 
+-- src/record.rt:106:9
+first-association-requires : tie.Need-first-association-requires Inv-loop μ-loop
+first-association-requires c κs = (c .before .before .before .before .pre .2, omega arith)
+
+-- src/record.rt:107:5
 loop-holds : tie.Need-loop-holds Inv-loop μ-loop
-unfolding upTo
-loop-holds c = (search needs, refl, refl, search needs, refl, refl)
+loop-holds c = let l = c .first-association .ensures in (l .within, leads-start l _ _ (λ k q x. sample-idle _ _ _ k q x) refl, refl, place-first _ _ _ _ l refl, written-first _ _ _ _ _ _ l, refl, l .met)
 
-speaks-requires : tie.Need-speaks-requires Inv-loop μ-loop
-speaks-requires c κs = search needs
-
+-- src/record.rt:108:47
 association-frame-requires : tie.Need-association-frame-requires Inv-loop μ-loop
 association-frame-requires c κs = search needs
 
+-- src/record.rt:108:38
 field-requires : tie.Need-field-requires Inv-loop μ-loop
 field-requires c κs = search needs
 
+-- src/record.rt:108:13
 sample-requires : tie.Need-sample-requires Inv-loop μ-loop
-sample-requires c κs = (small _ _ (c .before .before .before .before .before .before .before .before .before .before .before .pre .0), omega arith)
+sample-requires c κs = (small _ _ (c .before .before .before .before .before .before .before .before .before .before .pre .0), omega arith)
 
+-- src/record.rt:109:9
 put-word-requires : tie.Need-put-word-requires Inv-loop μ-loop
-put-word-requires c κs =
-    let l = c .before .before .before .before .before .before .before .before .before .before .loop in
-    let lt : l .j < associations (c .before .before .before .before .before .before .before .before .before .before .before .before .before .before .before .args .shape) = omega arith in
-    let h = value-fits _ _ _ _ _ _ [] _ _ _ (c .before .before .before .before .before .before .before .before .speaks .ensures) (l .inv .3) (l .inv .4) _ _ lt (c .before .before .before .before .before .before .before .if1 .taken) (c .before .before .before .before .before .before .before .before .before .before .before .before .before .before .before .pre .1) in
-    omega arith
+put-word-requires c κs = let l = c .before .before .before .before .before .before .before .before .loop in let lt : l .j < associations (c .before .before .before .before .before .before .before .before .before .before .before .before .before .before .args .shape) = omega arith in let h = value-fits _ _ _ _ _ _ [] _ _ _ (voiced _ _ _ _ (l .inv .6 lt)) (l .inv .3) (l .inv .4) _ _ lt (c .before .before .before .before .before .before .before .before .before .before .before .before .before .before .pre .1) in let q = l .inv .5 in omega arith
 
+-- src/record.rt:110:9
 add-p : tie.Need-add-p Inv-loop μ-loop
-add-p c =
-    let l = c .before .before .before .before .before .before .before .before .before .before .before .before .before .loop in
-    let lt : l .j < associations (c .before .before .before .before .before .before .before .before .before .before .before .before .before .before .before .before .before .before .args .shape) = omega arith in
-    let h = value-fits _ _ _ _ _ _ [] _ _ _ (c .before .before .before .before .before .before .before .before .before .before .before .speaks .ensures) (l .inv .3) (l .inv .4) _ _ lt (c .before .before .before .before .before .before .before .before .before .before .if1 .taken) (c .before .before .before .before .before .before .before .before .before .before .before .before .before .before .before .before .before .before .pre .1) in
-    omega arith
+add-p c = let l = c .before .before .before .before .before .before .before .before .before .before .before .loop in let g = c .before .before .before .before .before .before .before .before .before .before .before .before .before .before .before .before .before .good in let lt : l .j < associations (c .before .before .before .before .before .before .before .before .before .before .before .before .before .before .before .before .before .args .shape) = omega arith in let h = value-fits _ _ _ _ _ _ [] _ _ _ (voiced _ _ _ _ (l .inv .6 lt)) (l .inv .3) (l .inv .4) _ _ lt (c .before .before .before .before .before .before .before .before .before .before .before .before .before .before .before .before .before .pre .1) in let q = l .inv .5 in omega arith
 
-add-j : tie.Need-add-j Inv-loop μ-loop
-add-j c = search needs
+-- src/record.rt:111:9
+next-association-requires : tie.Need-next-association-requires Inv-loop μ-loop
+next-association-requires c κs = (c .before .before .before .before .before .before .before .before .before .before .before .before .before .before .before .before .before .pre .2, omega arith)
 
+-- src/record.rt:107:5
 loop-less : tie.Need-loop-less Inv-loop μ-loop
-loop-less c = search needs
+loop-less c = let l = c .before .before .before .before .before .before .before .before .before .before .before .before .loop in let h = l .inv .6 (omega arith) in let q = c .next-association .ensures .under 0 (omega arith) .next _ h .from in omega arith
 
+-- src/record.rt:107:5
 loop-again : tie.Need-loop-again Inv-loop μ-loop
-loop-again c =
-    let l = c .before .before .before .loop in
-    let h = c .before .speaks .ensures in
-    let lt : l .j < associations (c .before .before .before .before .before .before .before .before .args .shape) = omega arith in
-    ⊎-elim
-    (λ w. (
-      omega arith,
-      upTo-more _ _ _ _ _ (l .inv .1) (sample-take _ _ _ _ _ _ h (w .0 .taken) (at-frame _ 1 (w .2 .ensures .is) (w .3 .ensures .0)) (w .4 .ensures .0) (w .11 ∙ w .4 .ensures .1)),
-      omega (arith, ap length (w .11)),
-      value-place _ _ _ _ _ _ [] _ _ _ h (l .inv .3) (l .inv .4) (w .0 .taken) (w .13),
-      value-written _ _ _ _ _ _ _ _ _ _ h (l .inv .3) (l .inv .4) (w .0 .taken) (at-frame _ 1 (w .2 .ensures .is) (w .3 .ensures .0)) (sampled-value _ _ _ _ _ _ lt (sym h ∙ w .0 .taken) (l .inv .1) (at-frame _ 1 (w .2 .ensures .is) (w .3 .ensures .0)) (w .4 .ensures .0)) (w .12 ∙ w .8 .ensures),
-      omega (arith, ap length (w .12)),
-    ))
-    (λ w. (
-      omega arith,
-      upTo-more _ _ _ _ _ (l .inv .1) (sample-skip _ _ _ _ _ _ h (w .0 .left) (w .1)),
-      omega (arith, ap length (w .1)),
-      place-kept _ _ _ _ _ _ [] _ _ _ h (l .inv .3) (l .inv .4) (w .0 .left) (w .3),
-      value-kept _ _ _ _ _ _ _ _ _ _ h (l .inv .3) (l .inv .4) (w .0 .left) (w .2),
-      omega (arith, ap length (w .2)),
-    ))
-    (c .if1 .came)
+loop-again c = let l = c .before .before .before .before .before .before .before .before .before .before .before .before .loop in let lt : l .j < associations (c .before .before .before .before .before .before .before .before .before .before .before .before .before .before .before .before .before .before .args .shape) = omega arith in let h = l .inv .6 lt in let w = c .next-association .ensures .under 0 (omega arith) .next _ h in let v = voiced _ _ _ _ h in let f = at-frame _ 1 (c .before .before .before .before .before .before .before .before .before .association-frame .ensures .is) (c .before .before .before .before .before .before .before .before .field .ensures .0) in (w .within, leads-more w _ _ _ _ (λ k q x. sample-idle _ _ _ k q x) refl (l .inv .1) (sample-take _ _ _ _ _ _ v f (c .before .before .before .before .before .before .before .sample .ensures .0) (c .before .before .before .before .before .before .before .sample .ensures .1)), omega (arith, l .inv .2), value-place _ _ _ _ _ _ [] _ _ _ v (l .inv .3) (l .inv .4) w refl, value-written _ _ _ _ _ _ _ _ _ _ v (l .inv .3) (l .inv .4) w f (sampled-value _ _ _ _ _ _ lt v (l .inv .1) f (c .before .before .before .before .before .before .before .sample .ensures .0)) (c .before .before .before .put-word .ensures), omega (arith, l .inv .5), w .met)
 
+-- src/record.rt:90:1
 same-length : tie.Need-same-length Inv-loop μ-loop
 same-length c = search needs
 
+-- src/record.rt:90:1
 same-length-2 : tie.Need-same-length-2 Inv-loop μ-loop
 same-length-2 c = search needs
 
+-- src/record.rt:90:1
 returns : tie.Need-returns Inv-loop μ-loop
 unfolding values
-returns c =
-    let e : c .before .loop .j ≡ associations (c .before .before .before .before .before .before .args .shape) = omega arith in
-    (upTo-end _ _ _ _ _ (c .before .loop .inv .1) e, rw e at (c .before .loop .inv .4), values-end _ _ _ _ _ _ (c .before .loop .inv .3) e)
+returns c = let l = c .before .loop in let e : l .j ≡ associations (c .before .before .before .before .before .before .before .args .shape) = omega arith in (upTo-end _ _ _ _ _ (l .inv .1) e, rw e at (l .inv .4), values-end _ _ _ _ _ _ (l .inv .3) e)
 
 pub sample-into-spec : {M : Type 1} → statement M
 sample-into-spec =
@@ -110,14 +103,14 @@ sample-into-spec =
     Inv-loop
     μ-loop
     associations-requires
+    first-association-requires
     loop-holds
-    speaks-requires
     association-frame-requires
     field-requires
     sample-requires
     put-word-requires
     add-p
-    add-j
+    next-association-requires
     loop-less
     loop-again
     same-length

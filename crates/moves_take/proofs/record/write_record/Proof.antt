@@ -24,7 +24,7 @@ add-sample-into c = search needs
 
 sample-into-requires : tie.Need-sample-into-requires
 unfolding recordSize
-sample-into-requires c κs = (c .before .before .before .before .before .before .before .before .before .pre .0, let h = c .before .before .before .before .before .before .before .before .before .pre .3 in let e = simp length-sets at (ap length (c .before .before .before .before .write-head .ensures)) in omega arith)
+sample-into-requires c κs = (c .before .before .before .before .before .before .before .before .before .pre .0, let h = c .before .before .before .before .before .before .before .before .before .pre .3 in let e = simp length-sets at (ap length (c .before .before .before .before .write-head .ensures)) in omega arith, c .before .before .before .before .before .before .before .before .before .pre .4)
 
 same-length : tie.Need-same-length
 same-length c = search needs

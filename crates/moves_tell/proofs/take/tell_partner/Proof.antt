@@ -1,5 +1,4 @@
 -- `tell_partner` meets its contract: found or not.
-use native.Mathlib.Omega.{arith}
 use mathlib.Core.Path.{sym}
 use Rattle.moves_tell.specs.laws.Told.{told-none, told-same, room-same}
 use Rattle.moves_tell.proofs.Telling.{partner-none, partner-one, partner-below}
@@ -8,7 +7,7 @@ use Rattle.moves_tell.proofs.take.tell_partner.Statement.{statement}
 use Rattle.moves_tell.proofs.take.tell_partner.Tie as tie
 
 partner-output-requires : tie.Need-partner-output-requires
-partner-output-requires c κs = search needs
+partner-output-requires c κs = (c .before .before .pre .3, c .before .before .pre .1)
 
 enum-known-o : tie.Need-enum-known-o
 enum-known-o c = search needs

@@ -1,5 +1,4 @@
 -- `tell_values` meets its contract: inputs, then an interface's outputs.
-use native.Mathlib.Omega.{arith}
 use mathlib.Core.Path.{sym}
 use Rattle.moves_tell.specs.Before.{takeEntries}
 use Rattle.moves_tell.specs.laws.Told.{room-first, room-rest, room-same, told-then, told-same}
@@ -9,7 +8,7 @@ use Rattle.moves_tell.proofs.take.tell_values.Statement.{statement}
 use Rattle.moves_tell.proofs.take.tell_values.Tie as tie
 
 associated-requires : tie.Need-associated-requires
-associated-requires c κs = search needs
+associated-requires c κs = (c .before .before .before .pre .0 .is-lawful .is-good, c .before .before .before .pre .4)
 
 tell-inputs-requires : tie.Need-tell-inputs-requires
 unfolding takeEntries

@@ -1,32 +1,32 @@
--- `clear` meets its contract. The invariant: the fields passed are used or zero.
+-- `clear` meets its contract. The invariant: the fields passed, and those before them, are used or zero.
+use borrow.Author.Needs.{needs}
 use Rattle.table_frames.proofs.form.clear.Statement.{statement}
 use Rattle.rules_walks.specs.All.{allTo}
-use Rattle.rules_walks.specs.laws.All.{all-none, all-more, all-stop}
+use Rattle.rules_walks.specs.laws.All.{all-intro, all-more, all-stop, all-less}
 use Rattle.rules_tables.specs.Form.{clearAt}
-use borrow.Author.Needs.{needs}
 use borrow.Author.Tests.{lt-ltb, le-ltb, eq-eqb, ne-eqb}
 use mathlib.Core.Bool.{true}
-use mathlib.Core.Logic.{⊎-elim}
 use mathlib.Core.Path.{_≡_, sym, _∙_}
 use native.Mathlib.Omega.{arith}
 use Prim.Native.Nat.{_≤_, _-_}
 use Rattle.table_frames.proofs.form.clear.Tie as tie
 
 abbrev Inv-loop : tie.InvT-loop
-Inv-loop t f u j₀ j = (j ≤ 5) × (allTo (clearAt t f u) j ≡ true)
+Inv-loop t f u j₀ j = (u ≤ j) × (allTo (clearAt t f u) j ≡ true)
 
 abbrev μ-loop : tie.MeasureT-loop
 μ-loop t f u j₀ j = 5 - j
 
 loop-holds : tie.Need-loop-holds Inv-loop μ-loop
-loop-holds c = (search needs, all-none _)
+unfolding clearAt
+loop-holds c = (search needs, all-intro _ _ (λ i l. rw (lt-ltb i _ l)))
 
 field-requires : tie.Need-field-requires Inv-loop μ-loop
 field-requires c κs = search needs
 
 returns : tie.Need-returns Inv-loop μ-loop
 unfolding clearAt
-returns c = sym (all-stop _ 5 (c .before .before .before .before .loop .j) (c .before .before .before .loop-test .taken) (rw (le-ltb _ _ (c .before .before .if1 .taken), ne-eqb _ 0 (λ e. c .if2 .taken (c .before .field .ensures .0 ∙ e)))))
+returns c = sym (all-stop _ 5 (c .before .before .before .loop .j) (c .before .before .loop-test .taken) (rw (le-ltb (c .before .before .before .loop .j) (c .before .before .before .before .before .args .u) (c .before .before .before .loop .inv .0), ne-eqb _ 0 (λ e. c .if1 .taken (c .before .field .ensures .0 ∙ e)))))
 
 add-j : tie.Need-add-j Inv-loop μ-loop
 add-j c = search needs
@@ -36,14 +36,10 @@ loop-less c = search needs
 
 loop-again : tie.Need-loop-again Inv-loop μ-loop
 unfolding clearAt
-loop-again c = (
-  search needs,
-  all-more _ (c .before .before .loop .j) (c .before .before .loop .inv .1)
-      (⊎-elim (λ w. rw (le-ltb _ _ (w .0 .taken), eq-eqb _ 0 (sym (w .1 .ensures .0) ∙ w .2 .left))) (λ w. rw (lt-ltb _ _ (w .left))) (c .if1 .came)),
-)
+loop-again c = (search needs, all-more _ (c .before .before .before .loop .j) (c .before .before .before .loop .inv .1) (rw (le-ltb (c .before .before .before .loop .j) (c .before .before .before .before .before .args .u) (c .before .before .before .loop .inv .0), eq-eqb _ 0 (sym (c .before .field .ensures .0) ∙ c .if1 .left))))
 
 returns-2 : tie.Need-returns-2 Inv-loop μ-loop
-returns-2 c = let e : c .before .loop .j ≡ 5 = omega arith in sym (rw e at (c .before .loop .inv .1))
+returns-2 c = sym (all-less _ (c .before .loop .j) 5 (omega arith) (c .before .loop .inv .1))
 
 pub clear-spec : {M : Type 1} → statement M
 clear-spec =

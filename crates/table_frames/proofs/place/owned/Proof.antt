@@ -10,7 +10,7 @@ exists-requires : tie.Need-exists-requires
 exists-requires c κs = search needs
 
 owner-requires : tie.Need-owner-requires
-owner-requires c κs = (c .before .before .before .pre .0, c .before .before .before .pre .1, ltb-true _ _ (sym (c .before .exists .ensures) ∙ c .if1 .taken), search needs)
+owner-requires c κs = (c .before .before .before .before .pre .0, c .before .before .before .before .pre .1, ltb-true _ _ (sym (c .before .exists .ensures) ∙ c .if1 .taken), c .before .before .before .before .pre .2)
 
 returns : tie.Need-returns
 unfolding ownedBy

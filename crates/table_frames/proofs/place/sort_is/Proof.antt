@@ -10,7 +10,7 @@ exists-requires : tie.Need-exists-requires
 exists-requires c κs = search needs
 
 flag-of-requires : tie.Need-flag-of-requires
-flag-of-requires c κs = (c .before .before .before .pre .0, search needs, ltb-true _ _ (sym (c .before .exists .ensures) ∙ c .if1 .taken), search needs)
+flag-of-requires c κs = (c .before .before .before .before .pre .0, search needs, ltb-true _ _ (sym (c .before .exists .ensures) ∙ c .if1 .taken), c .before .before .before .before .pre .1)
 
 returns : tie.Need-returns
 unfolding sortIs

@@ -1,80 +1,90 @@
--- `eight::eight_end` meets its contract. The loop's invariant: m counts the frames below f by their event's key (`Tallied`),
--- and no frame below f associates a ninth variable.
-use Rattle.table_network.proofs.eight.eight_end.Statement.{statement}
-use Rattle.rules_walks.specs.All.{allTo}
-use Rattle.rules_walks.specs.laws.All.{all-none, all-more}
-use Rattle.rules_walks.specs.laws.Held.{held-stop, held-end}
-use Rattle.rules_walks.specs.Tally.{Tallied}
-use Rattle.rules_walks.specs.laws.Tally.{tallied-none, tallied-more, tallied-small}
+-- `eight::eight_end` meets its contract. The loop's invariant: the windows up to event b are looked at.
+use Rattle.rules_walks.specs.Held.{heldTo}
 use Rattle.rules_tables.specs.Fresh.{eightAtMost}
-use Rattle.table_network.specs.Keys.{eventKey}
-use borrow.Author.Needs.{needs}
-use borrow.Author.Tests.{lt-ltb, le-ltb, eq-eqb, ne-eqb}
-use mathlib.Core.Bool.{true}
-use mathlib.Core.Logic.{⊎-elim}
-use mathlib.Core.Path.{_≡_, sym, _∙_}
+use Rattle.rules_tables.specs.laws.Places.{kind-le}
+use Rattle.table_network.specs.Keys.{slotOf, Slotting}
+use Rattle.table_network.specs.Windows.{underKey}
+use Rattle.table_network.specs.laws.Counted.{events-told, slotting-less, eight-past}
+use Rattle.table_network.specs.laws.Known.{stretches-less}
+use Rattle.table_network.specs.laws.Windows.{windows-none, windows-more, windows-all}
+use denote.Ref.{now}
+use lib.ListN.{length}
+use lib.Seq.{length-take-le}
+use mathlib.Core.Path.{_≡_, refl, sym}
 use native.Mathlib.Omega.{arith}
-use Prim.Native.Nat.{_≤_, _-_}
+use Prim.Native.Nat.{_≤_, _-_, _+_, _/_}
+use borrow.Author.Needs.{needs}
+use Rattle.table_network.proofs.eight.eight_end.Statement.{statement}
 use Rattle.table_network.proofs.eight.eight_end.Tie as tie
 
 abbrev Inv-loop : tie.InvT-loop
-Inv-loop t n m₀ f₀ m f = (f ≤ n) × Tallied (eventKey t) 512 m f × (allTo (eightAtMost t) f ≡ true)
+Inv-loop t counts₀ at from n room inputs slots e₀ b₀ counts e b = ((inputs ≤ 4096) × (slots ≤ 8192)) × Slotting t inputs n × (b ≤ slots + 2048) × (length counts ≡ length counts₀) × (e ≤ n) × (e ≡ heldTo (underKey (eightAtMost t) (slotOf t inputs) b) n)
 
 abbrev μ-loop : tie.MeasureT-loop
-μ-loop t n m₀ f₀ m f = n - f
+μ-loop t counts₀ at from n room inputs slots e₀ b₀ counts e b = slots - b
+
+count-requires : tie.Need-count-requires Inv-loop μ-loop
+count-requires c κs = (c .before .before .pre .0 .counts, omega arith)
+
+count-requires-2 : tie.Need-count-requires-2 Inv-loop μ-loop
+count-requires-2 c κs = (c .before .before .before .pre .0 .counts, omega arith)
+
+add-slots : tie.Need-add-slots Inv-loop μ-loop
+add-slots c = let T = now (c .before .before .before .before .args .t) in
+    let h = kind-le T 2 (length T / 12) in
+    let g = kind-le T 3 (length T / 12) in
+    let z = c .before .before .before .before .pre .0 .few in
+    omega (arith, c .before .count .ensures, c .count2 .ensures)
 
 loop-holds : tie.Need-loop-holds Inv-loop μ-loop
-loop-holds c = (search needs, tallied-none _ _, all-none _)
-
-event-key-requires : tie.Need-event-key-requires Inv-loop μ-loop
-event-key-requires c κs = search needs
-
-kind-requires : tie.Need-kind-requires Inv-loop μ-loop
-kind-requires c κs = search needs
-
-variables-requires : tie.Need-variables-requires Inv-loop μ-loop
-variables-requires c κs =
-    let l = c .before .before .before .before .before .loop in
-    (search needs, sym (c .before .before .kind .ensures .0) ∙ c .before .if1 .taken, c .before .before .before .event-key .ensures, l .inv .1)
-
-returns : tie.Need-returns Inv-loop μ-loop
-unfolding eightAtMost
-returns c =
-    let l = c .before .before .before .before .before .before .before .loop in
-    let k = sym (c .before .before .before .before .kind .ensures .0) ∙ c .before .before .before .if1 .taken in (
-      held-stop _ _ (l .f) (c .before .before .before .before .before .before .loop-test .taken) (l .inv .2) (rw (eq-eqb _ _ k, ← c .before .variables .ensures, le-ltb _ _ (c .if2 .taken))),
-      search needs,
+loop-holds c = let T = now (c .before .before .before .before .args .t) in
+    let h = kind-le T 2 (length T / 12) in
+    let g = kind-le T 3 (length T / 12) in
+    let z = c .before .before .before .before .pre .0 .few in (
+      (omega (arith, c .before .count .ensures), omega (arith, c .before .count .ensures, c .count2 .ensures)),
+      events-told T _ _ _ _ (c .before .before .before .before .pre .0) (c .before .count .ensures),
+      omega arith,
+      refl,
+      omega arith,
+      windows-none _ _ _,
     )
 
-slice-aggregate-plus : tie.Need-slice-aggregate-plus Inv-loop μ-loop
-slice-aggregate-plus c = search needs
+sub-counts-for : tie.Need-sub-counts-for Inv-loop μ-loop
+sub-counts-for c = search needs
 
-plus-requires : tie.Need-plus-requires Inv-loop μ-loop
-plus-requires c κs = let h = tallied-small _ _ _ _ (c .before .before .before .event-key .result) (c .before .before .before .before .before .loop .inv .1) in omega arith
+counts-for-requires : tie.Need-counts-for-requires Inv-loop μ-loop
+counts-for-requires c κs = search needs
 
-add-f : tie.Need-add-f Inv-loop μ-loop
-add-f c = search needs
+slice-relend-prefix-window-end : tie.Need-slice-relend-prefix-window-end Inv-loop μ-loop
+slice-relend-prefix-window-end c = search needs
+
+slice-aggregate-window-end : tie.Need-slice-aggregate-window-end Inv-loop μ-loop
+slice-aggregate-window-end c = sym (length-take-le (c .before .counts-for .result) (c .before .before .before .loop .counts) (let h = c .before .before .before .loop .inv .3 in omega arith))
+
+window-end-requires : tie.Need-window-end-requires Inv-loop μ-loop
+window-end-requires c κs = let a = c .before .before .before .before .before .before .before .before .args in
+    let p = c .before .before .before .before .before .before .before .before .pre in
+    let l = c .before .before .before .loop in
+    (stretches-less (now (a .t)) _ (a .n) (l .e) (l .inv .4) (p .0 .stretches), p .0 .few, l .inv .0 .0, slotting-less (now (a .t)) _ (a .n) (l .e) (l .inv .4) (l .inv .1))
+
+add-b : tie.Need-add-b Inv-loop μ-loop
+add-b c = search needs
 
 loop-less : tie.Need-loop-less Inv-loop μ-loop
 loop-less c = search needs
 
 loop-again : tie.Need-loop-again Inv-loop μ-loop
-unfolding eightAtMost
-loop-again c =
-    let l = c .before .before .before .before .before .before .before .loop in
-    let e = c .before .before .before .before .kind .ensures .0 in (
-      search needs,
-      rw (c .before .plus .ensures, c .before .before .before .before .before .event-key .ensures) (tallied-more _ _ _ _ (l .inv .1)),
-      all-more _ (l .f) (l .inv .2)
-          (⊎-elim (λ w. rw (eq-eqb _ _ (sym e ∙ w .0 .taken), ← w .2 .ensures, lt-ltb _ _ (w .3 .left)))
-          (λ w. rw (ne-eqb _ _ (λ q. w .left (e ∙ q))))
-          (c .before .before .before .if1 .came)),
-    )
+loop-again c = let l = c .before .before .before .before .before .before .loop in
+    let q = rw (length-take-le (c .before .before .before .before .counts-for .result) (l .counts) (let h = l .inv .3 in omega arith)) at (c .before .before .window-end .ensures .0) in
+    (l .inv .0, l .inv .1, search needs, search needs, search needs, windows-more _ _ _ (l .b) _ (l .e) _ (l .inv .5) q)
 
-returns-2 : tie.Need-returns-2 Inv-loop μ-loop
-returns-2 c =
-    let e : c .before .loop .f ≡ c .before .before .before .args .n = omega arith in
-    (held-end _ _ (rw e at (c .before .loop .inv .2)), search needs)
+same-length : tie.Need-same-length Inv-loop μ-loop
+same-length c = search needs
+
+returns : tie.Need-returns Inv-loop μ-loop
+returns c = let a = c .before .before .before .before .before .before .args in
+    let l = c .before .loop in
+    (windows-all _ _ (a .n) (l .b) (l .e) (eight-past (now (a .t)) _ (a .n) (l .b) (l .inv .1) (rw (c .before .before .count2 .ensures) at (c .loop-test .left))) (l .inv .5), l .inv .4)
 
 pub eight-end-spec : {M : Type 1} → statement M
 eight-end-spec =
@@ -82,14 +92,17 @@ eight-end-spec =
     (tie.spec
     Inv-loop
     μ-loop
+    count-requires
+    count-requires-2
+    add-slots
     loop-holds
-    event-key-requires
-    kind-requires
-    variables-requires
-    returns
-    slice-aggregate-plus
-    plus-requires
-    add-f
+    sub-counts-for
+    counts-for-requires
+    slice-relend-prefix-window-end
+    slice-aggregate-window-end
+    window-end-requires
+    add-b
     loop-less
     loop-again
-    returns-2)
+    same-length
+    returns)

@@ -1,94 +1,69 @@
--- `fresh::fresh_end` meets its contract. The loop's invariant: the set has the keys of the frames of kind k below f (`Marked`),
--- and every frame below f is fresh.
-use Rattle.table_network.proofs.fresh.fresh_end.Statement.{statement}
-use Rattle.rules_walks.specs.All.{allTo}
-use Rattle.rules_walks.specs.laws.All.{all-none, all-more, all-less}
-use Rattle.rules_walks.specs.laws.Held.{held-stop, held-end}
-use Rattle.numbers_bits.specs.Marked.{Marked}
-use Rattle.numbers_bits.specs.laws.Marked.{marked-none}
-use Rattle.rules_tables.specs.Form.{formOk}
-use Rattle.rules_tables.specs.Reference.{refersOk}
+-- `fresh::fresh_end` meets its contract. The loop's invariant: the windows up to key b are looked at.
+use Rattle.rules_walks.specs.Held.{heldTo}
 use Rattle.rules_tables.specs.Fresh.{fresh}
-use Rattle.table_network.specs.Keys.{keyed}
-use Rattle.table_network.specs.laws.Alike.{marked-other}
-use borrow.Author.Needs.{needs}
-use borrow.Author.Tests.{eq-eqb, ne-eqb}
+use Rattle.table_network.specs.Keys.{keyAt}
+use Rattle.table_network.specs.Windows.{underKey}
+use Rattle.table_network.specs.laws.Alike.{telling-less, fresh-past}
+use Rattle.table_network.specs.laws.Known.{stretches-less}
+use Rattle.table_network.specs.laws.Windows.{windows-none, windows-more, windows-all}
 use denote.Ref.{now}
 use lib.ListN.{length}
-use mathlib.Core.Bool.{true}
-use mathlib.Core.Logic.{⊎-elim}
-use mathlib.Core.Path.{_≡_, sym, _∙_}
+use lib.Seq.{length-take-le}
+use mathlib.Core.Path.{_≡_, refl, sym}
 use native.Mathlib.Omega.{arith}
 use Prim.Native.Nat.{_≤_, _-_, _+_}
+use borrow.Author.Needs.{needs}
+use Rattle.table_network.proofs.fresh.fresh_end.Statement.{statement}
 use Rattle.table_network.proofs.fresh.fresh_end.Tie as tie
 
 abbrev Inv-loop : tie.InvT-loop
-Inv-loop t m₀ k n f₀ m f = (f ≤ n) × Marked (keyed k t) (length m₀) m f × (allTo (fresh k t) f ≡ true)
+Inv-loop t set₀ from k ys keys n words e₀ b₀ set e b = (b ≤ keys + 65536) × (length set ≡ length set₀) × (e ≤ n) × (e ≡ heldTo (underKey (fresh k t) (keyAt k t ys) b) n)
 
 abbrev μ-loop : tie.MeasureT-loop
-μ-loop t m₀ k n f₀ m f = n - f
+μ-loop t set₀ from k ys keys n words e₀ b₀ set e b = keys - b
 
 loop-holds : tie.Need-loop-holds Inv-loop μ-loop
-loop-holds c =
-    let a = c .before .before .args in
-    (search needs, rw (← c .before .before .pre .4) at (marked-none (keyed (a .k) (now (a .t))) (length (now (a .m)))), all-none _)
+loop-holds c = (omega arith, refl, omega arith, windows-none _ _ _)
 
-kind-requires : tie.Need-kind-requires Inv-loop μ-loop
-kind-requires c κs = search needs
+sub-words-for : tie.Need-sub-words-for Inv-loop μ-loop
+sub-words-for c = search needs
 
-shared-requires : tie.Need-shared-requires Inv-loop μ-loop
-shared-requires c κs =
-    let T = now (c .before .before .before .before .before .before .before .args .t) in
-    let p = c .before .before .before .before .before .before .before .pre in
-    let l = c .before .before .before .before .loop in (
-      search needs,
-      sym (c .before .before .kind .ensures .0) ∙ c .before .if1 .taken,
-      all-less (formOk T) _ (l .f + 1) (omega arith) (p .1),
-      all-less (refersOk T) _ (l .f + 1) (omega arith) (p .2),
-      rw (l .inv .1 .long) (p .3),
-      rw (l .inv .1 .long) (l .inv .1),
-    )
+words-for-requires : tie.Need-words-for-requires Inv-loop μ-loop
+words-for-requires c κs = search needs
 
-same-length : tie.Need-same-length Inv-loop μ-loop
-same-length c = c .before .before .before .shared .ensures .1 .long ∙ c .before .before .before .before .before .before .before .before .loop .inv .1 .long
+slice-relend-prefix-window-end : tie.Need-slice-relend-prefix-window-end Inv-loop μ-loop
+slice-relend-prefix-window-end c = search needs
 
-returns : tie.Need-returns Inv-loop μ-loop
-unfolding fresh
-returns c =
-    let l = c .before .before .before .before .before .before .before .before .loop in
-    let k = sym (c .before .before .before .before .before .before .kind .ensures .0) ∙ c .before .before .before .before .before .if1 .taken in (
-      held-stop _ _ (l .f) (c .before .before .before .before .before .before .before .loop-test .taken) (l .inv .2) (rw (eq-eqb _ _ k, ← c .before .before .before .shared .ensures .0, c .if2 .taken)),
-      search needs,
-    )
+slice-aggregate-window-end : tie.Need-slice-aggregate-window-end Inv-loop μ-loop
+slice-aggregate-window-end c = sym (length-take-le (c .before .words-for .result) (c .before .before .before .loop .set) (let h = c .before .before .before .loop .inv .1 in omega arith))
 
-add-f : tie.Need-add-f Inv-loop μ-loop
-add-f c = search needs
+window-end-requires : tie.Need-window-end-requires Inv-loop μ-loop
+window-end-requires c κs = let a = c .before .before .before .before .before .before .args in
+    let p = c .before .before .before .before .before .before .pre in
+    let l = c .before .before .before .loop in
+    (stretches-less (now (a .t)) _ (a .n) (l .e) (l .inv .2) (p .0), telling-less (a .k) (now (a .t)) (a .ys) (a .n) (l .e) (l .inv .2) (p .1), p .3, p .4)
+
+mul-b : tie.Need-mul-b Inv-loop μ-loop
+mul-b c = search needs
+
+add-b : tie.Need-add-b Inv-loop μ-loop
+add-b c = search needs
 
 loop-less : tie.Need-loop-less Inv-loop μ-loop
 loop-less c = search needs
 
 loop-again : tie.Need-loop-again Inv-loop μ-loop
-unfolding fresh
-loop-again c =
-    let l = c .before .before .before .loop in
-    let e = c .before .kind .ensures .0 in (
-      search needs,
-      ⊎-elim (λ w. rw (w .6) (rw (l .inv .1 .long) at (w .2 .ensures .1)))
-          (λ w. rw (w .1) (marked-other _ _ (l .f) _ _ (λ q. w .0 .left (e ∙ q)) (l .inv .1)))
-          (c .if1 .came),
-      all-more _ (l .f) (l .inv .2)
-          (⊎-elim (λ w. rw (eq-eqb _ _ (sym e ∙ w .0 .taken), ← w .2 .ensures .0, w .5 .left))
-          (λ w. rw (ne-eqb _ _ (λ q. w .0 .left (e ∙ q))))
-          (c .if1 .came)),
-    )
+loop-again c = let l = c .before .before .before .before .before .before .loop in
+    let q = rw (length-take-le (c .before .before .before .before .words-for .result) (l .set) (let h = l .inv .1 in omega arith)) at (c .before .before .window-end .ensures .0) in
+    (search needs, search needs, search needs, windows-more _ _ _ (l .b) _ (l .e) _ (l .inv .3) q)
 
-same-length-2 : tie.Need-same-length-2 Inv-loop μ-loop
-same-length-2 c = search needs
+same-length : tie.Need-same-length Inv-loop μ-loop
+same-length c = search needs
 
-returns-2 : tie.Need-returns-2 Inv-loop μ-loop
-returns-2 c =
-    let e : c .before .loop .f ≡ c .before .before .before .before .args .n = omega arith in
-    (held-end _ _ (rw e at (c .before .loop .inv .2)), search needs)
+returns : tie.Need-returns Inv-loop μ-loop
+returns c = let a = c .before .before .before .before .args in
+    let l = c .before .loop in
+    (windows-all _ _ (a .n) (l .b) (l .e) (fresh-past (a .k) (now (a .t)) (a .ys) (a .n) (a .keys) (l .b) (c .before .before .before .before .pre .2) (c .loop-test .left)) (l .inv .3), l .inv .2)
 
 pub fresh-end-spec : {M : Type 1} → statement M
 fresh-end-spec =
@@ -97,12 +72,14 @@ fresh-end-spec =
     Inv-loop
     μ-loop
     loop-holds
-    kind-requires
-    shared-requires
-    same-length
-    returns
-    add-f
+    sub-words-for
+    words-for-requires
+    slice-relend-prefix-window-end
+    slice-aggregate-window-end
+    window-end-requires
+    mul-b
+    add-b
     loop-less
     loop-again
-    same-length-2
-    returns-2)
+    same-length
+    returns)

@@ -1,27 +1,20 @@
--- `fresh::pair_key` meets its contract: each return is `pairKey` with its two tests decided.
-use borrow.Author.Needs.{needs}
-use Rattle.table_network.proofs.fresh.pair_key.Statement.{statement}
+-- `fresh::pair_key` meets its contract; the product of two small numbers is small (`mul-le-mul`).
+use native.Mathlib.Nat.{mul-le-mul}
+use native.Mathlib.Omega.{arith}
+use mathlib.Core.Path.{refl}
 use Rattle.table_network.specs.Keys.{pairKey}
-use borrow.Author.Tests.{lt-ltb, le-ltb}
+use Rattle.table_network.proofs.fresh.pair_key.Statement.{statement}
 use Rattle.table_network.proofs.fresh.pair_key.Tie as tie
 
 mul-result : tie.Need-mul-result
-mul-result c = search needs
+mul-result c = let z = mul-le-mul {n₁ = c .args .x} {m₁ = c .args .ys} {n₂ = 65536} {m₂ = 4096} (omega arith) (omega arith) in omega arith
 
 add-result : tie.Need-add-result
-add-result c = search needs
+add-result c = let z = mul-le-mul {n₁ = c .args .x} {m₁ = c .args .ys} {n₂ = 65536} {m₂ = 4096} (omega arith) (omega arith) in omega arith
 
 returns : tie.Need-returns
 unfolding pairKey
-returns c = rw (lt-ltb _ _ (c .before .if1 .taken), lt-ltb _ _ (c .if2 .taken))
-
-returns-2 : tie.Need-returns-2
-unfolding pairKey
-returns-2 c = rw (lt-ltb _ _ (c .before .if1 .taken), le-ltb _ _ (c .if2 .left))
-
-returns-3 : tie.Need-returns-3
-unfolding pairKey
-returns-3 c = rw (le-ltb _ _ (c .if1 .left))
+returns c = refl
 
 pub pair-key-spec : {M : Type 1} → statement M
-pair-key-spec = tie.close (tie.spec mul-result add-result returns returns-2 returns-3)
+pair-key-spec = tie.close (tie.spec mul-result add-result returns)

@@ -1,7 +1,7 @@
 -- `parts::parts_of` meets its contract: the entry of element and class counts the parts by `parts-tally`.
 use borrow.Author.Needs.{needs}
 use Rattle.table_network.proofs.parts.parts_of.Statement.{statement}
-use Rattle.table_network.specs.laws.Counted.{parts-tally}
+use Rattle.table_network.specs.laws.Parts.{parts-tally}
 use mathlib.Core.Path.{_∙_}
 use Rattle.table_network.proofs.parts.parts_of.Tie as tie
 

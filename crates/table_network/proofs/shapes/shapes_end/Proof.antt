@@ -1,51 +1,69 @@
--- `shapes::shapes_end` meets its contract. The loop's invariant: every element below f has its shape. An element's id is its frame (`shape-element`),
+-- `shapes::shapes_end` meets its contract. The loop's invariant: every frame below f keeps the rule. An element's id is its frame (`shape-element`),
 -- and below 64 (`element-few`), because the frames have their form.
-use Rattle.table_network.proofs.shapes.shapes_end.Statement.{statement}
 use Rattle.rules_walks.specs.All.{allTo}
-use Rattle.rules_walks.specs.laws.All.{all-none, all-more}
-use Rattle.rules_walks.specs.laws.Held.{held-stop, held-end}
+use Rattle.rules_walks.specs.laws.All.{all-more}
+use Rattle.rules_walks.specs.laws.Held.{held-stop}
+use Rattle.rules_walks.specs.laws.Tally.{tallied-none}
 use Rattle.rules_tables.specs.Shapes.{shapeOk}
-use Rattle.table_network.specs.laws.Counted.{element-few, shape-element, shape-other}
-use borrow.Author.Needs.{needs}
+use Rattle.table_network.specs.Known.{Stretch}
+use Rattle.table_network.specs.laws.Known.{stretch, stretch-start, stretch-end}
+use Rattle.table_network.specs.laws.Parts.{element-few, shape-element, shape-other}
 use borrow.Author.Tests.{not-true, not-false}
+use denote.Ref.{now}
 use mathlib.Core.Bool.{true}
-use mathlib.Core.Logic.{⊎-elim}
 use mathlib.Core.Path.{_≡_, sym, _∙_}
 use native.Mathlib.Omega.{arith}
 use Prim.Native.Nat.{_≤_, _-_}
+use borrow.Author.Needs.{needs}
+use Rattle.table_network.proofs.shapes.shapes_end.Statement.{statement}
 use Rattle.table_network.proofs.shapes.shapes_end.Tie as tie
 
 abbrev Inv-loop : tie.InvT-loop
-Inv-loop t n m f₀ f = (f ≤ n) × (allTo (shapeOk t) f ≡ true)
+Inv-loop t at from formed n m hi f₀ f = Stretch t 1 n f₀ hi × (f₀ ≤ f) × (f ≤ hi) × (allTo (shapeOk t) f ≡ true)
 
 abbrev μ-loop : tie.MeasureT-loop
-μ-loop t n m f₀ f = n - f
+μ-loop t at from formed n m hi f₀ f = hi - f
+
+slice-aggregate-parts : tie.Need-slice-aggregate-parts Inv-loop μ-loop
+slice-aggregate-parts c = search needs
 
 parts-requires : tie.Need-parts-requires Inv-loop μ-loop
-parts-requires c κs = search needs
+parts-requires c κs = let p = c .before .before .pre in (p .0 .few, p .0 .counts, p .1, tallied-none _ _)
+
+add-start : tie.Need-add-start Inv-loop μ-loop
+add-start c = search needs
+
+start-requires : tie.Need-start-requires Inv-loop μ-loop
+start-requires c κs = (c .before .before .before .before .pre .0 .stretches .size, omega arith)
+
+start-requires-2 : tie.Need-start-requires-2 Inv-loop μ-loop
+start-requires-2 c κs = (c .before .before .before .before .before .pre .0 .stretches .size, omega arith)
 
 loop-holds : tie.Need-loop-holds Inv-loop μ-loop
-loop-holds c = (search needs, all-none _)
-
-kind-requires : tie.Need-kind-requires Inv-loop μ-loop
-kind-requires c κs = search needs
+loop-holds c = let a = c .before .before .before .before .before .before .args in
+    let T = now (a .t) in
+    let w = stretch T _ 1 (a .n) _ _ (omega arith) (c .before .before .before .before .before .before .pre .0 .stretches) (c .start2 .ensures .0) (c .before .start .ensures .0) in
+    (w, omega arith, w .rise, stretch-start T _ 1 (a .n) _ _ (shape-other T) w)
 
 flag-requires : tie.Need-flag-requires Inv-loop μ-loop
-flag-requires c κs = search needs
+flag-requires c κs = let h = c .before .before .loop .inv .0 .within in
+    let g = c .before .before .before .before .before .before .before .before .before .pre .0 .stretches .within in
+    omega arith
 
 shape-as-requires : tie.Need-shape-as-requires Inv-loop μ-loop
-shape-as-requires c κs =
-    let k = sym (c .before .before .before .kind .ensures .0) ∙ c .before .before .if1 .taken in
-    (element-few _ _ _ (c .before .before .before .before .before .before .before .before .pre .2) (c .before .before .before .before .loop-test .taken) k, c .before .before .before .before .before .before .parts .ensures)
+shape-as-requires c κs = let l = c .before .before .before .loop in
+    let w = l .inv .0 in
+    let h = w .within in
+    (element-few (now (c .before .before .before .before .before .before .before .before .before .before .args .t)) (c .before .before .before .before .before .before .before .before .before .before .args .n) (l .f) (c .before .before .before .before .before .before .before .before .before .before .pre .0 .stretches .form) (omega arith) (w .inside (l .f) (l .inv .1) (c .before .before .loop-test .taken)), c .before .before .before .before .before .before .before .parts .ensures)
 
 returns : tie.Need-returns Inv-loop μ-loop
-returns c =
-    let l = c .before .before .before .before .before .before .before .loop in
-    let k = sym (c .before .before .before .before .before .kind .ensures .0) ∙ c .before .before .before .before .if1 .taken in (
-      held-stop _ _ (l .f) (c .before .before .before .before .before .before .loop-test .taken) (l .inv .1)
-          (shape-element _ _ _ (c .before .before .before .before .before .before .before .before .before .before .pre .2) (c .before .before .before .before .before .before .loop-test .taken) k
-          ∙ rw (← c .before .before .flag .ensures .0) (sym (c .before .shape-as .ensures) ∙ not-true _ (c .if2 .taken))),
-      search needs,
+returns c = let l = c .before .before .before .before .before .loop in
+    let w = l .inv .0 in
+    let h = w .within in
+    let k = w .inside (l .f) (l .inv .1) (c .before .before .before .before .loop-test .taken) in (
+      held-stop _ _ (l .f) (omega arith) (l .inv .3)
+          (shape-element (now (c .before .before .before .before .before .before .before .before .before .before .before .before .args .t)) (c .before .before .before .before .before .before .before .before .before .before .before .before .args .n) (l .f) (c .before .before .before .before .before .before .before .before .before .before .before .before .pre .0 .stretches .form) (omega arith) k ∙ rw (← c .before .before .flag .ensures .0) (sym (c .before .shape-as .ensures) ∙ not-true _ (c .if1 .taken))),
+      omega arith,
     )
 
 add-f : tie.Need-add-f Inv-loop μ-loop
@@ -55,21 +73,21 @@ loop-less : tie.Need-loop-less Inv-loop μ-loop
 loop-less c = search needs
 
 loop-again : tie.Need-loop-again Inv-loop μ-loop
-loop-again c =
-    let l = c .before .before .before .loop in
-    let t = c .before .before .loop-test .taken in
-    let e = c .before .kind .ensures .0 in (
+loop-again c = let l = c .before .before .before .before .before .loop in
+    let w = l .inv .0 in
+    let h = w .within in
+    let k = w .inside (l .f) (l .inv .1) (c .before .before .before .before .loop-test .taken) in (
+      w,
+      omega arith,
       search needs,
-      all-more _ (l .f) (l .inv .1)
-          (⊎-elim
-          (λ w.
-          shape-element _ _ _ (c .before .before .before .before .before .before .pre .2) t (sym e ∙ w .0 .taken) ∙ rw (← w .2 .ensures .0) (sym (w .3 .ensures) ∙ not-false _ (w .4 .left)))
-          (λ w. shape-other _ _ (λ q. w .left (e ∙ q)))
-          (c .if1 .came)),
+      all-more _ (l .f) (l .inv .3)
+          (shape-element (now (c .before .before .before .before .before .before .before .before .before .before .before .before .args .t)) (c .before .before .before .before .before .before .before .before .before .before .before .before .args .n) (l .f) (c .before .before .before .before .before .before .before .before .before .before .before .before .pre .0 .stretches .form) (omega arith) k ∙ rw (← c .before .before .flag .ensures .0) (sym (c .before .shape-as .ensures) ∙ not-false _ (c .if1 .left))),
     )
 
 returns-2 : tie.Need-returns-2 Inv-loop μ-loop
-returns-2 c = let e : c .before .loop .f ≡ c .before .before .before .before .args .n = omega arith in (held-end _ _ (rw e at (c .before .loop .inv .1)), search needs)
+returns-2 c = let l = c .before .loop in
+    let e : l .f ≡ c .before .before .before .start .result = omega arith in
+    (stretch-end (now (c .before .before .before .before .before .before .before .before .args .t)) _ 1 (c .before .before .before .before .before .before .before .before .args .n) _ _ (shape-other (now (c .before .before .before .before .before .before .before .before .args .t))) (l .inv .0) (rw e at (l .inv .3)), omega arith)
 
 pub shapes-end-spec : {M : Type 1} → statement M
 shapes-end-spec =
@@ -77,9 +95,12 @@ shapes-end-spec =
     (tie.spec
     Inv-loop
     μ-loop
+    slice-aggregate-parts
     parts-requires
+    add-start
+    start-requires
+    start-requires-2
     loop-holds
-    kind-requires
     flag-requires
     shape-as-requires
     returns

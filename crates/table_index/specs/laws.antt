@@ -1,0 +1,10 @@
+pub mod Actions
+pub mod Chain
+pub mod Entries
+pub mod Leads
+pub mod Making
+pub mod Nth
+pub mod Owned
+pub mod Owners
+pub mod Pair
+pub mod Partnering

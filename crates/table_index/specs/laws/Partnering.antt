@@ -1,0 +1,123 @@
+-- Making an index: the partners, found along the chains of their elements.
+use mathlib.Core.Path.{_≡_, _∙_}
+use mathlib.Core.List.{List}
+use mathlib.Core.Bool.{true}
+use mathlib.Core.Logic.{inl, inr}
+use Prim.Native.Nat.{ℕ, _+_, _*_, _≤_, _<_}
+use native.Mathlib.Omega.{arith}
+use lib.Dec.{eqb}
+use lib.ListN.{getD}
+use borrow.Author.Tests.{eqb-true}
+use Rattle.rules_tables.specs.Kind.{input, output}
+use Rattle.rules_tables.specs.Frame.{framesOf, fieldAt}
+use Rattle.rules_tables.specs.declared.Shape.{Shape}
+use Rattle.rules_tables.specs.Ids.{firstInput, firstOutput, firstVariable, inputs, outputs, variables}
+use Rattle.rules_tables.specs.Owned.{any, belongs}
+use Rattle.rules_tables.specs.Lawful.{Lawful}
+use Rattle.table_index.specs.Leads.{Leads}
+use Rattle.table_index.specs.laws.Leads.{leads-same}
+use Rattle.table_index.specs.Chain.{ownerAt, Chained, Apart}
+use Rattle.table_index.specs.laws.Owned.{owner-flag, first-any, follows-any}
+use Rattle.table_index.specs.Pair.{partnerAt}
+use Rattle.table_index.specs.laws.Pair.{pairing-none}
+use Rattle.table_index.specs.Index.{Owners, ByEvent, ByState, OutputPartners, Indexed}
+use Rattle.table_index.specs.Making.{PairAsked}
+use Rattle.table_index.specs.laws.Making.{lies, events-stand, states-stand}
+
+module _ (T : List ℕ) (S : Shape) (w : Lawful T S) where
+  -- the outputs' frames lie before the index's other entries
+  low : firstOutput S + outputs S ≤ 4096
+  low = let y = lies T S w in omega (arith, y .few, y .variables-at, y .associations-at, y .associations-end, y .actions-at, y .actions-end, y .links-at, y .links-end)
+
+  low-variables : firstVariable S + variables S ≤ 4096
+  low-variables = let y = lies T S w in omega (arith, y .few, y .associations-at, y .associations-end, y .actions-at, y .actions-end, y .links-at, y .links-end)
+
+  in-table : firstInput S + inputs S ≤ framesOf T
+  in-table = let y = lies T S w in omega (arith, y .outputs-at, y .variables-at, y .associations-at, y .associations-end, y .actions-at, y .actions-end, y .links-at, y .links-end)
+
+  in-table-variables : firstVariable S + variables S ≤ framesOf T
+  in-table-variables = let y = lies T S w in omega (arith, y .associations-at, y .associations-end, y .actions-at, y .actions-end, y .links-at, y .links-end)
+
+  -- ---- event outputs
+  pub ask-output-pairs : {ix ix₁ : List ℕ} {n i len : ℕ} → len ≡ 7424 → n ≡ outputs S → i ≡ inputs S → Chained (ownerAt T (firstOutput S) 0) (firstOutput S) n 6400 64 0 ix₁
+      → Apart (firstOutput S) (firstOutput S + n) 6400 6464 ix ix₁ → PairAsked T len ix₁ (firstInput S) i any (firstOutput S) n any 6400 6464
+  ask-output-pairs {ix} {ix₁} {n} {i} {len} long p q A a =
+      let l = low in
+      let t = in-table in
+      let f = w .is-good .few-inputs in (
+        omega arith,
+        omega arith,
+        omega arith,
+        omega arith,
+        λ k u. (let h = w .is-good .input-element k (omega arith) in let m = w .is-good .few-elements in omega arith),
+        pairing-none T (firstInput S) any (firstOutput S) n any 6400 6464 ix₁ (λ x u. first-any T (firstOutput S) n 6400 64 ix₁ A x u)
+            (λ o x u v b. follows-any T (firstOutput S) n 6400 64 ix₁ A o u .next x b),
+      )
+
+  pub outputs-done : {ix ix₁ ix₂ : List ℕ} {n i : ℕ} → n ≡ outputs S → i ≡ inputs S → ByEvent T S ix → ByState T S ix
+      → Apart (firstOutput S) (firstOutput S + n) 6400 6464 ix ix₁
+      → ((k : ℕ) → k < i → getD ix₂ (6464 + k) 0 ≡ partnerAt T (firstInput S) any (firstOutput S) n any k) → Apart 6400 6464 6464 (6464 + i) ix₁ ix₂
+      → ByEvent T S ix₂ × ByState T S ix₂ × OutputPartners T S ix₂
+  outputs-done p q e s a P b =
+      let y = lies T S w in
+      let l = low in
+      let u : firstOutput S + outputs S ≤ firstVariable S = omega (arith, y .variables-at) in (
+        events-stand T S w b (inl (omega (arith, y .few, y .associations-end, y .actions-at, y .actions-end, y .links-at, y .links-end))) (inl (omega (arith, y .few, y .links-end))) (omega arith) (inr (omega arith)) (inr (omega arith))
+            (events-stand T S w a (inr (omega (arith, y .associations-at))) (inr (omega (arith, y .associations-at, y .associations-end, y .actions-at, y .actions-end))) (omega arith) (inl (omega arith)) (inr (omega arith)) e),
+        states-stand T S w b (inr (omega arith)) (omega arith) (states-stand T S w a (inl (omega (arith, y .associations-at, y .associations-end))) (omega arith) s),
+        λ k v. rw (← p) (P k (omega arith)),
+      )
+
+  -- ---- variables, told by their role
+  module _ (o : Owners T S) where
+    by-role : (x i : ℕ) → x < 64 → i < variables S → eqb (ownerAt T (firstVariable S) 64 i) (64 * 1 + x) ≡ belongs T (firstVariable S) output x i
+    by-role x i l u =
+        let h = w .is-good .variable-element i u in
+        let m = w .is-good .few-elements in
+        let few : fieldAt T (firstVariable S + i) 0 < 64 = omega arith in
+        owner-flag T (firstVariable S) 64 1 x i (omega arith) few l (λ z. (omega arith, omega arith))
+
+    pub ask-variable-pairs : {ix ix₁ : List ℕ} {n len : ℕ} → len ≡ 7424 → n ≡ variables S → Chained (ownerAt T (firstVariable S) 64) (firstVariable S) n 6720 192 0 ix₁
+        → Apart (firstVariable S) (firstVariable S + n) 6720 6912 ix ix₁ → PairAsked T len ix₁ (firstVariable S) n input (firstVariable S) n output 6784 6912
+    ask-variable-pairs {ix} {ix₁} {n} long p A a =
+        let l = low-variables in
+        let t = in-table-variables in
+        let f = w .is-good .few-variables in (
+          omega arith,
+          omega arith,
+          omega arith,
+          omega arith,
+          λ k u. (let h = w .is-good .variable-element k (omega arith) in let m = w .is-good .few-elements in omega arith),
+          pairing-none T (firstVariable S) input (firstVariable S) n output 6784 6912 ix₁ heads nexts,
+        )
+      where
+        heads : (x : ℕ) → x < 64 → Leads (belongs T (firstVariable S) output x) 0 (getD ix₁ (6784 + x) 0) n
+        heads x u =
+            let e : 6720 + (64 * 1 + x) ≡ 6784 + x = omega arith in
+            leads-same (λ i v. by-role x i u (omega arith)) (rw e at (A .heads (64 * 1 + x) (omega arith)))
+
+        nexts : (k x : ℕ) → k < n → x < 64 → belongs T (firstVariable S) output x k ≡ true → Leads (belongs T (firstVariable S) output x) (k + 1) (getD ix₁ (firstVariable S + k) 0) n
+        nexts k x u v b =
+            let e : ownerAt T (firstVariable S) 64 k ≡ 64 * 1 + x = eqb-true (ownerAt T (firstVariable S) 64 k) (64 * 1 + x) (by-role x k v (omega arith) ∙ b) in
+            leads-same (λ i h. by-role x i v (omega arith)) (rw e at (A .nexts k (omega arith) u))
+
+    pub variables-done : {ix ix₁ ix₂ : List ℕ} {n : ℕ} → n ≡ variables S → ByEvent T S ix → ByState T S ix → OutputPartners T S ix
+        → Apart (firstVariable S) (firstVariable S + n) 6720 6912 ix ix₁
+        → ((k : ℕ) → k < n → getD ix₂ (6912 + k) 0 ≡ partnerAt T (firstVariable S) input (firstVariable S) n output k) → Apart 6784 6848 6912 (6912 + n) ix₁ ix₂
+        → Indexed T S ix₂
+    variables-done p e s O a P b =
+        let y = lies T S w in
+        let l = low-variables in
+        record {
+          lawful = w;
+          owners = o;
+          events =
+              events-stand T S w b (inl (omega (arith, y .few, y .associations-end, y .actions-at, y .actions-end, y .links-at, y .links-end))) (inl (omega (arith, y .few, y .links-end))) (omega arith) (inr (omega arith)) (inr (omega arith))
+              (events-stand T S w a (inr (omega (arith, y .associations-at))) (inr (omega (arith, y .associations-at, y .associations-end, y .actions-at, y .actions-end))) (omega arith) (inl (omega arith)) (inr (omega arith)) e);
+          states = states-stand T S w b (inr (omega arith)) (omega arith) (states-stand T S w a (inl (omega (arith, y .associations-at, y .associations-end))) (omega arith) s);
+          output-partners =
+              λ i u.
+              let f = w .is-good .few-inputs in
+              b .kept (6464 + i) (inl (omega arith)) (inl (omega arith)) ∙ a .kept (6464 + i) (inr (omega arith)) (inl (omega arith)) ∙ O i u;
+          variable-partners = λ v u. rw (← p) (P v (omega arith));
+        }
