@@ -7,17 +7,13 @@
 #include <stdio.h>
 
 #include "bench-networks.h"
+#include "bench-time.h"
 #include "byhand.h"
 #include "xaluudhiga.h"
 
 int strcmp(const char *, const char *);
 int memcmp(const void *, const void *, unsigned long);
 void exit(int);
-struct timespec {
-    long seconds, nanoseconds;
-};
-int clock_gettime(int, struct timespec *);
-enum { PROCESS_CPU_TIME = 2 };
 
 enum { WORDS = 2048, ROOM = 400000, LONG = 10000, SHORT = 20 };
 
@@ -141,12 +137,6 @@ static void hold_all(void) {
 }
 
 // ---- times
-
-static double now(void) {
-    struct timespec t;
-    clock_gettime(PROCESS_CPU_TIME, &t);
-    return t.seconds * 1e9 + t.nanoseconds;
-}
 
 struct best {
     double ours, theirs;
