@@ -7,6 +7,7 @@ ghost use Rattle.rules_tables.specs.Good.{Good};
 ghost use Rattle.rules_tables.specs.Ids.{transitions as «transitionsOf», actions as «actionsOf», transitionFrame};
 ghost use Rattle.table_parts.specs.Found.{foundOf};
 ghost use Rattle.table_index.specs.Index.{Indexed};
+ghost use Rattle.rules_store.specs.Word.{runningOf};
 ghost use Rattle.numbers.specs.Bounded.{Bounded};
 ghost use Rattle.rules_moves.specs.Chart.{heard as «heardOf», guardHolds, enabled as «enabledAt», transitionOf, change as «changeOf», goIdle, elementOf, stateOf};
 ghost use Rattle.rules_tables.specs.Actions.{actionOf, actionNumber};
@@ -19,6 +20,7 @@ use store_words::shape::transition_frame;
 use store_words::shape::transitions;
 use store_words::word::chart_state;
 use store_words::word::put_chart_state;
+use store_words::word::put_entered;
 use store_words::word::put_owner;
 use store_words::word::put_running;
 use store_words::word::running_element;
@@ -127,14 +129,14 @@ pub fn number_after(t: &[u8], ix: &[u16; SIZE], shape: Shape, q: usize, j: usize
 
 // Transition j of the running element is made: the state changes, live ends, mode 2, step 0, action 1 or 0.
 pub fn change(t: &[u8], ix: &[u16; SIZE], store: &mut [u32], shape: Shape, r: Running, j: usize)
-    requires { ⌜ Good (now t) shape × Indexed (now t) shape (now ix) × (j < transitionsOf shape) ⌝ }
+    requires { ⌜ Good (now t) shape × Indexed (now t) shape (now ix) × (j < transitionsOf shape) × (r ≡ runningOf (now store)) ⌝ }
     ensures { λ _. ⌜ now (store .exit) ≡ changeOf (now (t .entry)) shape (elementOf (now (store .entry))) r j (now (store .entry)) ⌝ }
 {
     let el = element_of(store);
     let to = field(t, transition_frame(t, shape, j), 1);
     let action = action_number(t, ix, shape, to, 1);
     put_chart_state(store, el, to as u32);
-    put_running(store, r.entered(action));
+    put_entered(store, r, action);
 }
 
 // The block goes idle.

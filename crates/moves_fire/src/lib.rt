@@ -139,6 +139,6 @@ pub fn fire(
     requires { ⌜ Good (now t) shape × Indexed (now t) shape (now ix) × (o < outputs shape) ⌝ }
     ensures { λ _. ⌜ now (store .exit) ≡ fireOf (now (t .entry)) shape o birth time (now (store .entry)) ⌝ }
 {
-    let w = voice_of(t, shape, o);
-    fire_by(t, ix, store, shape, o, w, birth, time);
+    connect_all(t, ix, store, shape, o, birth, time);
+    copy_all(t, ix, store, shape, voice_of(t, shape, o));
 }

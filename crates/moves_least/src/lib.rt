@@ -1,31 +1,23 @@
 // The waiting event that is taken next.
 ghost use mathlib.Core.Path.{_≡_};
-ghost use Prim.Native.Nat.{_<_};
+ghost use Prim.Native.Nat.{_<_, _≤_};
+ghost use lib.ListN.{length};
 ghost use Rattle.rules_tables.specs.Good.{Good};
 ghost use Rattle.rules_tables.specs.Ids.{inputs as «inputsOf»};
-ghost use Rattle.rules_moves.specs.Least.{keyOf, beats as «beatsOf», better as «betterOf», least as «leastOf»};
+ghost use Rattle.rules_store.specs.Layout.{need};
+ghost use Rattle.rules_moves.specs.Least.{keyOf, beats as «beatsOf», least as «leastOf»};
+ghost use Rattle.table_index.specs.Leads.{Leads};
+ghost use Rattle.store_words.specs.Small.{Small};
+ghost use Rattle.moves_least.specs.Waits.{waitsAt};
 use rules_moves::Best;
 use rules_moves::Key;
 use rules_tables::Shape;
 use store_words::shape::input_frame;
 use store_words::shape::inputs;
 use store_words::word::last_update;
-use store_words::word::waiting_flag;
+use store_words::word::waits;
 use table_frames::frame::field;
 use table_frames::frame::flag;
-
-// Last update before element priority before local priority.
-fn beats(k: Key, h: Key) -> bool
-    ensures { λ r. ⌜ r ≡ beatsOf k h ⌝ }
-{
-    if k.last != h.last {
-        return k.last < h.last;
-    }
-    if k.priority != h.priority {
-        return k.priority < h.priority;
-    }
-    k.local < h.local
-}
 
 fn key_of(t: &[u8], store: &[u32], shape: Shape, i: usize) -> Key
     requires { ⌜ Good (now t) shape × (i < inputsOf shape) ⌝ }
@@ -40,33 +32,68 @@ fn key_of(t: &[u8], store: &[u32], shape: Shape, i: usize) -> Key
     }
 }
 
-fn better(i: usize, k: Key, x: Best) -> Best
-    ensures { λ r. ⌜ r ≡ betterOf i k x ⌝ }
+// Event input i against the key h of another: last update before element priority before local priority. What does not decide is not read.
+fn beats_at(t: &[u8], store: &[u32], shape: Shape, i: usize, h: Key) -> bool
+    requires { ⌜ Good (now t) shape × (i < inputsOf shape) ⌝ }
+    ensures { λ r. ⌜ r ≡ beatsOf (keyOf (now (t .entry)) shape (now (store .entry)) i) h ⌝ }
 {
-    match x {
-        Best::Nothing => Best::At(i, k),
-        Best::At(j, h) => {
-            if beats(k, h) {
-                return Best::At(i, k);
-            }
-            Best::At(j, h)
+    let last = last_update(store, shape, i);
+    if last != h.last {
+        return last < h.last;
+    }
+    let f = input_frame(t, shape, i);
+    let priority = field(t, field(t, f, 0), 0);
+    if priority != h.priority {
+        return priority < h.priority;
+    }
+    flag(t, f) < h.local
+}
+
+// The first event input from i on that waits, or n.
+fn next_waiting(store: &[u32], shape: Shape, i: usize, n: usize) -> usize
+    requires { ⌜ Small shape × (i ≤ n) × (n ≡ inputsOf shape) × (need shape ≤ length (now store)) ⌝ }
+    ensures { λ r. ⌜ Leads (waitsAt shape (now (store .entry))) i r n ⌝ }
+{
+    let mut k = i;
+    while k < n {
+        if waits(store, shape, k) {
+            return k;
         }
+        k += 1;
+    }
+    n
+}
+
+// The least of the event inputs from `first` on, which waits, and of those before it, of which none does.
+fn best_from(t: &[u8], store: &[u32], shape: Shape, first: usize, n: usize) -> Best
+    requires { ⌜ Good (now t) shape × (n ≡ inputsOf shape) × (need shape ≤ length (now store)) × (first < n) × Leads (waitsAt shape (now store)) 0 first n ⌝ }
+    ensures { λ r. ⌜ r ≡ leastOf (now (t .entry)) shape (now (store .entry)) ⌝ }
+{
+    let mut best = first;
+    let mut h = key_of(t, store, shape, first);
+    let mut i = first + 1;
+    loop {
+        i = next_waiting(store, shape, i, n);
+        if n <= i {
+            break Best::At(best, h);
+        }
+        if beats_at(t, store, shape, i, h) {
+            best = i;
+            h = key_of(t, store, shape, i);
+        }
+        i += 1;
     }
 }
 
 // The least by (last update, element priority, local priority).
 pub fn least(t: &[u8], store: &[u32], shape: Shape) -> Best
-    requires { ⌜ Good (now t) shape ⌝ }
+    requires { ⌜ Good (now t) shape × (need shape ≤ length (now store)) ⌝ }
     ensures { λ r. ⌜ r ≡ leastOf (now (t .entry)) shape (now (store .entry)) ⌝ }
 {
     let n = inputs(shape);
-    let mut x = Best::Nothing;
-    let mut i = 0;
-    while i < n {
-        if waiting_flag(store, shape, i) != 0 {
-            x = better(i, key_of(t, store, shape, i), x);
-        }
-        i += 1;
+    let first = next_waiting(store, shape, 0, n);
+    if n <= first {
+        return Best::Nothing;
     }
-    x
+    best_from(t, store, shape, first, n)
 }

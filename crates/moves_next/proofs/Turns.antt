@@ -7,22 +7,28 @@ use lib.IntN.{pos}
 use lib.ListN.{length}
 use borrow.Author.Tests.{eq-eqb, ne-eqb, lt-ltb, le-ltb}
 use Rattle.rules_walks.specs.laws.Choose.{choose-true, choose-false}
-use Rattle.rules_walks.specs.First.{one}
+use Rattle.rules_walks.specs.First.{Sought, one, missing}
 use Rattle.rules_numbers.specs.Word.{signed, word}
 use Rattle.rules_numbers.specs.Operation.{operation}
-use Rattle.rules_tables.specs.Kind.{none}
+use Rattle.rules_tables.specs.Kind.{none, basic, interface, ofOutput}
 use Rattle.rules_tables.specs.Frame.{flagAt, fieldAt}
 use Rattle.rules_tables.specs.declared.Shape.{Shape}
 use Rattle.rules_store.specs.declared.Running.{Running}
 use Rattle.rules_tables.specs.Good.{Good}
-use Rattle.rules_tables.specs.Ids.{outputs, actions, actionFrame, stepFrame}
+use Rattle.rules_tables.specs.Ids.{actions, outputFrame, actionFrame, stepFrame}
+use Rattle.rules_tables.specs.Lawful.{Lawful}
+use Rattle.rules_store.specs.Part.{count, input, buffered, just, also}
 use Rattle.rules_store.specs.Running.{idle, charts, stepped, entered, charting}
 use Rattle.rules_store.specs.Word.{currentEvent, runningOf, putRunning, value, putValue, birthOf}
 use Rattle.table_parts.specs.declared.Found.{Found}
 use Rattle.table_parts.specs.declared.Found.the-variants.{One, Missing}
 use Rattle.table_parts.specs.Found.{foundOf}
 use Rattle.table_parts.specs.laws.Found.{found-one, found-missing}
+use Rattle.store_words.specs.laws.Running.{value-runs}
+use Rattle.table_index.specs.Index.{Owners}
+use Rattle.rules_moves.specs.Carry.{voice, voiceOf}
 use Rattle.rules_moves.specs.Fire.{fire}
+use Rattle.rules_moves.specs.laws.Firing.{fire-leaves}
 use Rattle.rules_moves.specs.declared.Key.{Key}
 use Rattle.rules_moves.specs.declared.Best.{Best}
 use Rattle.rules_moves.specs.declared.Best.the-variants.{At, Nothing as «NoEvent»}
@@ -47,12 +53,17 @@ pub step-is : (T : List ℕ) (S : Shape) (f age : ℕ) (s s′ : List ℕ) {a b 
 unfolding oneStep
 step-is T S f age s s′ b x c y g z a u = rw (← a, ← b, ← c, ← g, ← x, ← y, ← z) u
 
-pub stepped-on : (T : List ℕ) (S : Shape) (time : ℕ) (r : Running) (j : ℕ) (s s′ : List ℕ) {f ag : ℕ} {s₁ : List ℕ} {r′ : Running} → f ≡ stepFrame S j → ag ≡ time - r .birth → s₁ ≡ oneStep T S f ag s
-    → r′ ≡ stepped r → s′ ≡ putRunning r′ s₁ → s′ ≡ stepMove T S time r j s
+pub stepped-on : (T : List ℕ) (S : Shape) (time : ℕ) (r : Running) (j : ℕ) (s s′ : List ℕ) {f ag : ℕ} {s₁ : List ℕ} → f ≡ stepFrame S j → ag ≡ time - r .birth → s₁ ≡ oneStep T S f ag s
+    → s′ ≡ putRunning (stepped r) s₁ → s′ ≡ stepMove T S time r j s
 unfolding stepMove
-stepped-on T S time r j s s′ {s₁ = s₁} a ag p q u =
+stepped-on T S time r j s s′ {s₁ = s₁} a ag p u =
     let h : s₁ ≡ oneStep T S (stepFrame S j) (time - r .birth) s = rw (a, ag) at p in
-    u ∙ ap (λ (x : Running). putRunning x s₁) q ∙ ap (putRunning (stepped r)) h
+    u ∙ ap (putRunning (stepped r)) h
+
+-- the running block is still the one that was read
+pub step-runs : (T : List ℕ) (S : Shape) (f age : ℕ) (s : List ℕ) {s₁ : List ℕ} {r : Running} → s₁ ≡ oneStep T S f age s → r ≡ runningOf s → r ≡ runningOf s₁
+unfolding oneStep
+step-runs T S f age s p e = value-runs S s _ _ p e
 
 -- ---- the end of an action
 module _ (T : List ℕ) (S : Shape) (j birth time : ℕ) (s s′ : List ℕ) {o : ℕ} (read : o ≡ fieldAt T (actionFrame S j) 3) where
@@ -64,14 +75,24 @@ module _ (T : List ℕ) (S : Shape) (j birth time : ℕ) (s s′ : List ℕ) {o 
   unfolding eventOf fireFound
   event-none n u = rw (← read, choose-true _ _ _ (eq-eqb o none n)) u
 
-  pub event-in : Good T S → j < actions S → (o ≡ none → ⊥) → o < outputs S
-  event-in g l n = rw read (g .action-event j l (λ e. n (read ∙ e)))
+  -- it speaks by its own associations
+  pub event-own : Owners T S → j < actions S → (o ≡ none → ⊥) → voice ofOutput o ≡ voiceOf T S o
+  unfolding voiceOf
+  event-own w l n =
+      let b : flagAt T (fieldAt T (outputFrame S o) 0) ≡ basic = rw read (w .action-basic j l (λ e. n (read ∙ e))) in
+      rw (ne-eqb (flagAt T (fieldAt T (outputFrame S o) 0)) interface (λ e. omega arith))
 
-pub ended : (T : List ℕ) (S : Shape) (time : ℕ) (r : Running) (j : ℕ) (s s′ : List ℕ) {q k : ℕ} {s₁ : List ℕ} {r′ : Running} → q ≡ stateOf s → k ≡ actionNumber T S q (r .action + 1)
-    → s₁ ≡ fireFound T S (eventOf T S j) (r .birth) time s → r′ ≡ entered k r → s′ ≡ putRunning r′ s₁ → s′ ≡ endMove T S time (stateOf s) r j s
+-- the running block is still the one that was read
+pub fired-runs : (T : List ℕ) (S : Shape) → Lawful T S → (o : Sought) (birth time : ℕ) (s : List ℕ) {s₁ : List ℕ} {r : Running} → s₁ ≡ fireFound T S o birth time s → r ≡ runningOf s → r ≡ runningOf s₁
+unfolding fireFound
+fired-runs T S k (one o) birth time s p e = rw p (e ∙ sym (fire-leaves T S k (also input (also count (just buffered))) refl refl refl o birth time s .running refl .running))
+fired-runs T S k missing birth time s p e = rw p e
+
+pub ended : (T : List ℕ) (S : Shape) (time : ℕ) (r : Running) (j : ℕ) (s s′ : List ℕ) {q k : ℕ} {s₁ : List ℕ} → q ≡ stateOf s → k ≡ actionNumber T S q (r .action + 1)
+    → s₁ ≡ fireFound T S (eventOf T S j) (r .birth) time s → s′ ≡ putRunning (entered k r) s₁ → s′ ≡ endMove T S time (stateOf s) r j s
 unfolding endMove
-ended T S time r j s s′ {s₁ = s₁} a b p e u =
-    u ∙ ap (λ (x : Running). putRunning x s₁) e ∙ ap (λ (n : ℕ). putRunning (entered n r) s₁) (rw a at b) ∙ ap (putRunning (entered (actionNumber T S (stateOf s) (r .action + 1)) r)) p
+ended T S time r j s s′ {s₁ = s₁} a b p u =
+    u ∙ ap (λ (n : ℕ). putRunning (entered n r) s₁) (rw a at b) ∙ ap (putRunning (entered (actionNumber T S (stateOf s) (r .action + 1)) r)) p
 
 -- ---- what comes next
 module _ {x : Best} (found : Best) (told : x ≡ found) where
@@ -92,6 +113,11 @@ module _ (T : List ℕ) (S : Shape) (s : List ℕ) (live : ℕ) {q event : ℕ} 
   pub chart-missing : f ≡ Missing → Idle ≡ chartNext (transitionOf T S s (stateOf s) (currentEvent s) live)
   unfolding chartNext
   chart-missing e = rw (← state, ← heard, found-missing (transitionOf T S s q event live) _ found e)
+
+-- action 0 is none
+pub act-none : (T : List ℕ) (S : Shape) (r : Running) (s : List ℕ) → r .action ≡ 0 → Back ≡ actNext T S r (actionOf T S (stateOf s) (r .action))
+unfolding actNext actionOf
+act-none T S r s e = rw (eq-eqb (r .action) 0 e)
 
 module _ (T : List ℕ) (S : Shape) (r : Running) (s : List ℕ) {q k : ℕ} (state : q ≡ stateOf s) (number : k ≡ r .action) {f : Found} (found : f ≡ foundOf (actionOf T S q k)) where
   pub act-missing : f ≡ Missing → Back ≡ actNext T S r (actionOf T S (stateOf s) (r .action))
@@ -179,9 +205,9 @@ module _ (T : List ℕ) (S : Shape) (time : ℕ) (n : Next) (s o : List ℕ) (at
     unfolding moveBy writtenBy sizeBy
     made-end j e u = rw e (record { store = rw (← read) u; output = refl; place = omega arith })
 
-    pub made-back : {r′ : Running} → n ≡ Back → r′ ≡ charting r → s′ ≡ putRunning r′ s → Made T S time n s s′ o o at at
+    pub made-back : n ≡ Back → s′ ≡ putRunning (charting r) s → Made T S time n s s′ o o at at
     unfolding moveBy writtenBy sizeBy
-    made-back e p u = rw e (record { store = rw (← read, ← p) u; output = refl; place = omega arith })
+    made-back e u = rw e (record { store = rw (← read) u; output = refl; place = omega arith })
 
 -- there is room for what an event writes
 pub room-for : (T : List ℕ) (S : Shape) (time : ℕ) (n : Next) (s : List ℕ) (at room i : ℕ) → n ≡ Take i → at + sizeBy T S time n s ≤ room

@@ -3,6 +3,7 @@ ghost use mathlib.Core.Path.{_≡_};
 ghost use Prim.Native.Nat.{_<_};
 ghost use Rattle.rules_tables.specs.Frame.{framesOf};
 ghost use Rattle.rules_tables.specs.Good.{Good};
+ghost use Rattle.rules_store.specs.Word.{runningOf};
 ghost use Rattle.store_words.specs.Small.{Small};
 ghost use Rattle.rules_tables.specs.Ids.{actions as «actionsOf», steps as «stepsOf»};
 ghost use Rattle.rules_walks.specs.First.{one};
@@ -13,19 +14,22 @@ ghost use Rattle.rules_moves.specs.Act.{oneStep, stepMove, eventOf, endMove};
 ghost use Rattle.table_index.specs.Index.{Indexed};
 use moves_chart::number_after;
 use moves_chart::state_of;
-use moves_fire::fire;
+use moves_fire::fire_by;
 use numbers::operation::operate_words;
 use numbers::word::since;
+use rules_moves::Voice;
 use rules_store::Running;
 use rules_tables::Shape;
 use store_words::shape::action_frame;
 use store_words::shape::step_frame;
-use store_words::word::put_running;
+use store_words::word::put_entered;
+use store_words::word::put_stepped;
 use store_words::word::put_value;
 use store_words::word::value_of;
 use table_frames::frame::field;
 use table_frames::frame::flag;
 use table_frames::kind::NONE;
+use table_frames::kind::OF_OUTPUT;
 use table_index::index::SIZE;
 
 // The step at frame f.
@@ -41,7 +45,7 @@ fn one_step(t: &[u8], store: &mut [u32], shape: Shape, f: usize, age: u32)
 
 // Step j is made.
 pub fn step(t: &[u8], store: &mut [u32], shape: Shape, time: u32, r: Running, j: usize)
-    requires { ⌜ Good (now t) shape × (j < stepsOf shape) × (r .step < 4294967295) × (time < 2147483648) ⌝ }
+    requires { ⌜ Good (now t) shape × (j < stepsOf shape) × (r .step < 4294967295) × (time < 2147483648) × (r ≡ runningOf (now store)) ⌝ }
     ensures { λ _. ⌜ now (store .exit) ≡ stepMove (now (t .entry)) shape time r j (now (store .entry)) ⌝ }
 {
     one_step(
@@ -51,10 +55,10 @@ pub fn step(t: &[u8], store: &mut [u32], shape: Shape, time: u32, r: Running, j:
         step_frame(t, shape, j),
         since(time, r.birth),
     );
-    put_running(store, r.stepped());
+    put_stepped(store, r);
 }
 
-// The event of action j, if any, is fired.
+// The event of action j, if any, is fired. It is a basic element's, so it speaks by its own associations.
 fn fire_event(
     t: &[u8],
     ix: &[u16; SIZE],
@@ -69,7 +73,11 @@ fn fire_event(
 {
     let o = field(t, action_frame(t, shape, j), 3);
     if o != NONE {
-        fire(t, ix, store, shape, o, birth, time);
+        let w = Voice {
+            flag: OF_OUTPUT,
+            event: o,
+        };
+        fire_by(t, ix, store, shape, o, w, birth, time);
     }
 }
 
@@ -83,10 +91,10 @@ pub fn end(
     r: Running,
     j: usize,
 )
-    requires { ⌜ Good (now t) shape × (j < actionsOf shape) × (actionOf (now t) shape (stateOf (now store)) (r .action) ≡ one j) × (r .action < 4294967295) × Indexed (now t) shape (now ix) ⌝ }
+    requires { ⌜ Good (now t) shape × (j < actionsOf shape) × (actionOf (now t) shape (stateOf (now store)) (r .action) ≡ one j) × (r .action < 4294967295) × Indexed (now t) shape (now ix) × (r ≡ runningOf (now store)) ⌝ }
     ensures { λ _. ⌜ now (store .exit) ≡ endMove (now (t .entry)) shape time (stateOf (now (store .entry))) r j (now (store .entry)) ⌝ }
 {
     let next = number_after(t, ix, shape, state_of(store), j, r.action);
     fire_event(t, ix, store, shape, j, r.birth, time);
-    put_running(store, r.entered(next));
+    put_entered(store, r, next);
 }

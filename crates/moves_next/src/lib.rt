@@ -5,6 +5,7 @@ ghost use lib.ListN.{length};
 ghost use lib.Dec.{leb};
 ghost use Rattle.rules_tables.specs.Good.{Good};
 ghost use Rattle.rules_tables.specs.Ids.{inputs};
+ghost use Rattle.rules_store.specs.Layout.{need};
 ghost use Rattle.rules_store.specs.Word.{currentEvent, runningOf, birthOf};
 ghost use Rattle.rules_moves.specs.Least.{least as «leastOf»};
 ghost use Rattle.rules_moves.specs.Record.{putOut};
@@ -39,7 +40,7 @@ use store_words::shape::input_frame;
 use store_words::word::birth;
 use store_words::word::current_event;
 use store_words::word::last_update;
-use store_words::word::put_running;
+use store_words::word::put_charting;
 use table_frames::frame::field;
 use table_frames::frame::flag;
 use table_index::actions::action_of;
@@ -48,7 +49,7 @@ use table_parts::Found;
 
 // Idle: the least waiting event.
 fn next_event(t: &[u8], store: &[u32], shape: Shape) -> Next
-    requires { ⌜ Good (now t) shape ⌝ }
+    requires { ⌜ Good (now t) shape × (need shape ≤ length (now store)) ⌝ }
     ensures { λ n. ⌜ n ≡ eventNext (leastOf (now (t .entry)) shape (now (store .entry))) ⌝ }
 {
     let best = least(t, store, shape);
@@ -70,11 +71,14 @@ fn next_transition(t: &[u8], ix: &[u16; SIZE], store: &[u32], shape: Shape, live
     Next::Change(j)
 }
 
-// Mode 2: a step of the present action, its end, or no action.
+// Mode 2: a step of the present action, its end, or no action. Action 0 is none: the state is not looked at for it.
 fn next_act(t: &[u8], ix: &[u16; SIZE], store: &[u32], shape: Shape, r: Running) -> Next
     requires { ⌜ Good (now t) shape × Indexed (now t) shape (now ix) ⌝ }
     ensures { λ n. ⌜ n ≡ actNext (now (t .entry)) shape r (actionOf (now (t .entry)) shape (stateOf (now (store .entry))) (r .action)) ⌝ }
 {
+    if r.action == 0 {
+        return Next::Back;
+    }
     let Found::One(j) = action_of(t, ix, shape, state_of(store), wide(r.action)) else {
         return Next::Back;
     };
@@ -88,7 +92,7 @@ fn next_act(t: &[u8], ix: &[u16; SIZE], store: &[u32], shape: Shape, r: Running)
 
 // What comes next is decided here alone, by the mode of the running block r.
 pub fn next_move(t: &[u8], ix: &[u16; SIZE], store: &[u32], shape: Shape, r: Running) -> Next
-    requires { ⌜ Good (now t) shape × Indexed (now t) shape (now ix) ⌝ }
+    requires { ⌜ Good (now t) shape × Indexed (now t) shape (now ix) × (need shape ≤ length (now store)) ⌝ }
     ensures { λ n. ⌜ (n ≡ nextBy (now (t .entry)) shape r (now (store .entry))) × Ready shape n ⌝ }
 {
     let mode = r.mode;
@@ -182,7 +186,7 @@ pub fn make(
             at
         }
         Next::Back => {
-            put_running(store, r.charting());
+            put_charting(store, r);
             at
         }
         Next::Nothing => at,

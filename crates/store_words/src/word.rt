@@ -1,9 +1,13 @@
 // The words of the store by name. A place past the store's end reads 0 and is not written, so that no place has to be looked at twice.
 ghost use mathlib.Core.Path.{_≡_};
-ghost use Prim.Native.Nat.{_+_, _*_, _<_};
-ghost use lib.ListN.{getD, set};
+ghost use mathlib.Core.Bool.{not};
+ghost use Prim.Native.Nat.{_+_, _*_, _<_, _≤_};
+ghost use lib.Dec.{eqb};
+ghost use lib.ListN.{length, getD, set};
 ghost use Rattle.numbers.specs.Bounded.{Bounded};
-ghost use Rattle.rules_store.specs.Layout.{elementAt, inputAt, variableAt};
+ghost use Rattle.rules_tables.specs.Ids.{inputs as «inputsOf»};
+ghost use Rattle.rules_store.specs.Layout.{need, elementAt, inputAt, variableAt};
+ghost use Rattle.rules_store.specs.Running.{stepped, charting, entered};
 ghost use Rattle.store_words.specs.Small.{Small};
 ghost use Rattle.rules_store.specs.Word.{spares, nowOf, putNow, runningElement, currentEvent, putOwner, runningOf, putRunning, overwritten, putOverwritten, spareWord, chartState, putChartState, dueFlag, dueTime, putDue, waiting, birthOf, lastUpdate, putInput, value, putValue, buffer, putBuffer};
 use crate::shape::inputs;
@@ -91,6 +95,37 @@ pub fn put_running(store: &mut [u32], r: Running)
     put(store, 5, r.live);
     put(store, 6, r.action);
     put(store, 7, r.step);
+}
+
+// The running block goes on to its next one: of each only the words are written that differ from what the store has, which is r.
+// After a step: the step number.
+pub fn put_stepped(store: &mut [u32], r: Running)
+    requires { ⌜ (r ≡ runningOf (now store)) × (r .step < 4294967295) ⌝ }
+    ensures { λ _. ⌜ now (store .exit) ≡ putRunning (stepped r) (now (store .entry)) ⌝ }
+{
+    let next = r.stepped();
+    put(store, 7, next.step);
+}
+
+// Where all actions are done: the mode.
+pub fn put_charting(store: &mut [u32], r: Running)
+    requires { ⌜ r ≡ runningOf (now store) ⌝ }
+    ensures { λ _. ⌜ now (store .exit) ≡ putRunning (charting r) (now (store .entry)) ⌝ }
+{
+    let next = r.charting();
+    put(store, 4, next.mode);
+}
+
+// At an action, or at none: all but the birth.
+pub fn put_entered(store: &mut [u32], r: Running, action: u32)
+    requires { ⌜ r ≡ runningOf (now store) ⌝ }
+    ensures { λ _. ⌜ now (store .exit) ≡ putRunning (entered action r) (now (store .entry)) ⌝ }
+{
+    let next = r.entered(action);
+    put(store, 4, next.mode);
+    put(store, 5, next.live);
+    put(store, 6, next.action);
+    put(store, 7, next.step);
 }
 
 // The overwritten count.
@@ -192,6 +227,15 @@ pub fn waiting_flag(store: &[u32], shape: Shape, i: usize) -> u32
     ensures { λ r. ⌜ r ≡ waiting shape (now (store .entry)) i ⌝ }
 {
     word(store, input_at(shape, i))
+}
+
+// Event input i waits. Who asks knows that the store has its need, so its length is not looked at.
+pub fn waits(store: &[u32], shape: Shape, i: usize) -> bool
+    requires { ⌜ Small shape × (i < inputsOf shape) × (need shape ≤ length (now store)) ⌝ }
+    ensures { λ r. ⌜ r ≡ not (eqb (waiting shape (now (store .entry)) i) 0) ⌝ }
+{
+    let at = input_at(shape, i);
+    store[at] != 0
 }
 
 // Its birth.

@@ -5,10 +5,10 @@ use mathlib.Core.List.{List}
 use mathlib.Core.Bool.{true}
 use Prim.Native.Nat.{ℕ, _+_, _≤_, _<_}
 use lib.ListN.{length, getD}
-use Rattle.rules_tables.specs.Kind.{input, output}
+use Rattle.rules_tables.specs.Kind.{none, basic, input, output}
 use Rattle.rules_tables.specs.Frame.{Table, flagAt, fieldAt}
 use Rattle.rules_tables.specs.declared.Shape.{Shape}
-use Rattle.rules_tables.specs.Ids.{firstInput, firstOutput, firstVariable, firstAssociation, firstTransition, firstAction, firstConnection, firstLink, inputs, outputs, variables, associations, transitions, actions, connections, links, associationFrame, transitionFrame, actionFrame, connectionFrame, variableFrame}
+use Rattle.rules_tables.specs.Ids.{firstInput, firstOutput, firstVariable, firstAssociation, firstTransition, firstAction, firstConnection, firstLink, inputs, outputs, variables, associations, transitions, actions, connections, links, outputFrame, associationFrame, transitionFrame, actionFrame, connectionFrame, variableFrame}
 use Rattle.rules_tables.specs.Owned.{any, belongs}
 use Rattle.rules_tables.specs.Lawful.{Lawful}
 use Rattle.table_index.specs.Leads.{Leads}
@@ -47,7 +47,7 @@ variablePartners = 6912
 abbrev pub indexSize : ℕ
 indexSize = 7424
 
--- that each owner has its entry
+-- that each owner has its entry; and that an action's event, which is of its state's element, is a basic element's and so speaks by its own associations
 pub record Owners (T : Table) (S : Shape) : Type 0 where
   pub association-flag : (a : ℕ) → a < associations S → flagAt T (associationFrame S a) ≤ 1
   pub association-event : (a : ℕ) → a < associations S → fieldAt T (associationFrame S a) 0 < 256
@@ -55,6 +55,7 @@ pub record Owners (T : Table) (S : Shape) : Type 0 where
   pub action-state : (j : ℕ) → j < actions S → fieldAt T (actionFrame S j) 0 < 512
   pub connection-output : (j : ℕ) → j < connections S → fieldAt T (connectionFrame S j) 0 < 256
   pub variable-role : (v : ℕ) → v < variables S → flagAt T (variableFrame S v) ≤ 2
+  pub action-basic : (j : ℕ) → j < actions S → (fieldAt T (actionFrame S j) 3 ≡ none → ⊥) → flagAt T (fieldAt T (outputFrame S (fieldAt T (actionFrame S j) 3)) 0) ≡ basic
 
 -- what an event is followed by
 pub record ByEvent (T : Table) (S : Shape) (ix : List ℕ) : Type 0 where

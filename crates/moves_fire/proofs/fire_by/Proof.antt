@@ -1,26 +1,19 @@
+-- `fire_by` meets its contract: the connections, then the copies by the voice that it is given.
 use Rattle.moves_fire.specs.laws.Carrying.{voice-flag}
 use Rattle.rules_moves.specs.Fire.{fire}
 use borrow.Author.Needs.{needs}
 use Rattle.moves_fire.proofs.fire_by.Statement.{statement}
 use Rattle.moves_fire.proofs.fire_by.Tie as tie
-use Rattle.moves_fire.proofs.fire_by.Reads as reads
-use Rattle.moves_fire.proofs.fire_by.Lts as lts
-use Rattle.moves_fire.proofs.connect_all.Reads as connect-all-reads
-use Rattle.moves_fire.proofs.copy_all.Reads as copy-all-reads
 
--- src/lib.rt:125:5
 connect-all-requires : tie.Need-connect-all-requires
 connect-all-requires c κs = search needs
 
--- src/lib.rt:126:5
 copy-all-requires : tie.Need-copy-all-requires
 copy-all-requires c κs = (c .before .before .before .before .before .before .before .pre .0, c .before .before .before .before .before .before .before .pre .1, rw (c .before .before .before .before .before .before .before .pre .2) (voice-flag _ _ _))
 
--- src/lib.rt:112:1
 same-length : tie.Need-same-length
 same-length c = search needs
 
--- src/lib.rt:112:1
 returns : tie.Need-returns
 unfolding fire
 returns c = rw (c .before .before .copy-all .ensures, c .before .before .before .before .before .before .connect-all .ensures, c .before .before .before .before .before .before .before .before .before .before .pre .2)

@@ -1,9 +1,9 @@
 -- `make` meets its contract: by what comes next.
 use borrow.Author.Needs.{needs}
-use Rattle.moves_next.proofs.make.Statement.{statement}
 use Rattle.moves_next.proofs.Turns.{steps-few, end-action, actions-few, room-for, made-take, made-change, made-idle, made-step, made-end, made-back, made-nothing}
 use Rattle.rules_moves.specs.laws.Next.{answer-ready, ready-input, ready-transition, ready-step, ready-action}
 use mathlib.Core.Path.{refl}
+use Rattle.moves_next.proofs.make.Statement.{statement}
 use Rattle.moves_next.proofs.make.Tie as tie
 
 enum-known-n : tie.Need-enum-known-n
@@ -16,7 +16,7 @@ enum-known-n-2 : tie.Need-enum-known-n-2
 enum-known-n-2 c = search needs
 
 change-requires : tie.Need-change-requires
-change-requires c κs = (c .before .before .before .before .before .before .before .pre .0, c .before .before .before .before .before .before .before .pre .5, ready-transition _ _ (answer-ready _ _ _ _ (c .before .before .before .before .before .before .before .pre .0) _ (c .before .before .before .before .before .before .before .pre .2)) _ (c .before .before .n2 .given .1))
+change-requires c κs = (c .before .before .before .before .before .before .before .pre .0, c .before .before .before .before .before .before .before .pre .5, ready-transition _ _ (answer-ready _ _ _ _ (c .before .before .before .before .before .before .before .pre .0) _ (c .before .before .before .before .before .before .before .pre .2)) _ (c .before .before .n2 .given .1), c .before .before .before .before .before .before .before .pre .1)
 
 enum-told : tie.Need-enum-told
 enum-told c = search needs
@@ -28,22 +28,19 @@ enum-known-n-3 : tie.Need-enum-known-n-3
 enum-known-n-3 c = search needs
 
 step-requires : tie.Need-step-requires
-step-requires c κs = (c .before .before .before .before .before .before .before .pre .0, ready-step _ _ (answer-ready _ _ _ _ (c .before .before .before .before .before .before .before .pre .0) _ (c .before .before .before .before .before .before .before .pre .2)) _ (c .before .before .n3 .given .1), steps-few _ _ _ _ _ (c .before .before .before .before .before .before .before .pre .2) (c .before .before .before .before .before .before .before .pre .0) _ (c .before .before .n3 .given .1), c .before .before .before .before .before .before .before .pre .3)
+step-requires c κs = (c .before .before .before .before .before .before .before .pre .0, ready-step _ _ (answer-ready _ _ _ _ (c .before .before .before .before .before .before .before .pre .0) _ (c .before .before .before .before .before .before .before .pre .2)) _ (c .before .before .n3 .given .1), steps-few _ _ _ _ _ (c .before .before .before .before .before .before .before .pre .2) (c .before .before .before .before .before .before .before .pre .0) _ (c .before .before .n3 .given .1), c .before .before .before .before .before .before .before .pre .3, c .before .before .before .before .before .before .before .pre .1)
 
 enum-known-n-4 : tie.Need-enum-known-n-4
 enum-known-n-4 c = search needs
 
 end-requires : tie.Need-end-requires
-end-requires c κs = (c .before .before .before .before .before .before .before .pre .0, ready-action _ _ (answer-ready _ _ _ _ (c .before .before .before .before .before .before .before .pre .0) _ (c .before .before .before .before .before .before .before .pre .2)) _ (c .before .before .n4 .given .1), end-action _ _ _ _ _ (c .before .before .before .before .before .before .before .pre .2) (c .before .before .before .before .before .before .before .pre .0) _ (c .before .before .n4 .given .1), actions-few _ _ _ _ _ (c .before .before .before .before .before .before .before .pre .2) (c .before .before .before .before .before .before .before .pre .0) _ (c .before .before .n4 .given .1), c .before .before .before .before .before .before .before .pre .5)
+end-requires c κs = (c .before .before .before .before .before .before .before .pre .0, ready-action _ _ (answer-ready _ _ _ _ (c .before .before .before .before .before .before .before .pre .0) _ (c .before .before .before .before .before .before .before .pre .2)) _ (c .before .before .n4 .given .1), end-action _ _ _ _ _ (c .before .before .before .before .before .before .before .pre .2) (c .before .before .before .before .before .before .before .pre .0) _ (c .before .before .n4 .given .1), actions-few _ _ _ _ _ (c .before .before .before .before .before .before .before .pre .2) (c .before .before .before .before .before .before .before .pre .0) _ (c .before .before .n4 .given .1), c .before .before .before .before .before .before .before .pre .5, c .before .before .before .before .before .before .before .pre .1)
 
 enum-told-2 : tie.Need-enum-told-2
 enum-told-2 c = search needs
 
-charting-requires : tie.Need-charting-requires
-charting-requires c κs = search needs
-
-put-running-requires : tie.Need-put-running-requires
-put-running-requires c κs = search needs
+put-charting-requires : tie.Need-put-charting-requires
+put-charting-requires c κs = search needs
 
 enum-told-3 : tie.Need-enum-told-3
 enum-told-3 c = search needs
@@ -85,7 +82,7 @@ same-length-7 : tie.Need-same-length-7
 same-length-7 c = search needs
 
 returns-6 : tie.Need-returns-6
-returns-6 c = made-back _ _ _ _ _ _ _ (c .before .before .before .before .before .before .before .before .before .before .pre .1) (c .before .before .before .before .before .enum-told2 .given .1) (c .before .before .before .charting .ensures) (c .before .before .put-running .ensures)
+returns-6 c = made-back _ _ _ _ _ _ _ (c .before .before .before .before .before .before .before .before .before .pre .1) (c .before .before .before .before .enum-told2 .given .1) (c .before .before .put-charting .ensures)
 
 returns-7 : tie.Need-returns-7
 returns-7 c = made-nothing _ _ _ _ _ _ _ (c .enum-told3 .given .1) refl
@@ -105,8 +102,7 @@ make-spec =
     enum-known-n-4
     end-requires
     enum-told-2
-    charting-requires
-    put-running-requires
+    put-charting-requires
     enum-told-3
     same-length
     same-length-2

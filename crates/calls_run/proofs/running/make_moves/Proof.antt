@@ -26,7 +26,10 @@ running-requires : tie.Need-running-requires Inv-loop μ-loop
 running-requires c κs = search needs
 
 next-move-requires : tie.Need-next-move-requires Inv-loop μ-loop
-next-move-requires c κs = (c .before .before .before .before .before .before .before .before .pre .0 .is-lawful .is-good, c .before .before .before .before .before .before .before .before .pre .4)
+next-move-requires c κs =
+    let start = c .before .before .before .before .before .before .before .before .pre in
+    let long = start .1 .parts .long in
+    (start .0 .is-lawful .is-good, start .4, omega (arith, c .before .before .before .loop .inv .2))
 
 asked-requires : tie.Need-asked-requires Inv-loop μ-loop
 asked-requires c κs =

@@ -1,0 +1,43 @@
+-- The running block in the store: what leaves it as it is, and that words which stay need not be written again.
+use mathlib.Core.Path.{_≡_, refl, sym, ap, _∙_}
+use mathlib.Core.List.{List, [], _∷_}
+use Prim.Native.Nat.{ℕ, zero, suc, _+_}
+use native.Mathlib.Omega.{arith}
+use lib.ListN.{getD, set}
+use lib.Seq.{getD-set-other}
+use Rattle.rules_tables.specs.declared.Shape.{Shape}
+use Rattle.rules_store.specs.declared.Running.{Running}
+use Rattle.rules_store.specs.Running.{stepped, charting, entered}
+use Rattle.rules_store.specs.Layout.{elementAt, variableAt}
+use Rattle.rules_store.specs.Word.{runningOf, putRunning, putChartState, putValue}
+use Rattle.rules_store.specs.laws.Part.{same-block}
+
+-- ---- what leaves it: r is the running block before and after
+pub chart-runs : (s : List ℕ) (el q : ℕ) {s′ : List ℕ} {r : Running} → s′ ≡ putChartState el q s → r ≡ runningOf s → r ≡ runningOf s′
+unfolding putChartState elementAt
+chart-runs s el q p e = rw p (e ∙ sym (same-block s (set s (elementAt el) q) (λ k a b. getD-set-other s (elementAt el) k q 0 (λ z. omega arith)) .running))
+
+pub value-runs : (S : Shape) (s : List ℕ) (v x : ℕ) {s′ : List ℕ} {r : Running} → s′ ≡ putValue S v x s → r ≡ runningOf s → r ≡ runningOf s′
+unfolding putValue variableAt
+value-runs S s v x p e = rw p (e ∙ sym (same-block s (set s (variableAt S v) x) (λ k a b. getD-set-other s (variableAt S v) k x 0 (λ z. omega arith)) .running))
+
+-- ---- a word that stays
+back : (s : List ℕ) (k : ℕ) → set s k (getD s k 0) ≡ s
+back [] k = refl
+back (x ∷ s) zero = refl
+back (x ∷ s) (suc k) = ap (λ (l : List ℕ). x ∷ l) (back s k)
+
+module _ (s : List ℕ) {r : Running} (read : r ≡ runningOf s) where
+  pub only-step : set s 7 (r .step + 1) ≡ putRunning (stepped r) s
+  unfolding putRunning runningOf
+  only-step = rw (read, back s 3, back s 4, back s 5, back s 6)
+
+  pub only-mode : set s 4 1 ≡ putRunning (charting r) s
+  unfolding putRunning runningOf
+  only-mode =
+      let kept : (q : ℕ) → (q ≡ 4 → ⊥) → getD (set s 4 1) q 0 ≡ getD s q 0 = λ q n. getD-set-other s 4 q 1 0 n in
+      rw (read, back s 3, ← kept 5 (λ e. omega arith), back (set s 4 1) 5, ← kept 6 (λ e. omega arith), back (set s 4 1) 6, ← kept 7 (λ e. omega arith), back (set s 4 1) 7)
+
+  pub all-but-birth : (a : ℕ) → set (set (set (set s 4 2) 5 0) 6 a) 7 0 ≡ putRunning (entered a r) s
+  unfolding putRunning runningOf
+  all-but-birth a = rw (read, back s 3)
