@@ -1,13 +1,8 @@
 -- The frames of a move as code finds them: from the store before it alone.
 use Prim.Native.Nat.{ℕ, _-_}
 use mathlib.Core.List.{List, [], _∷_, _++_}
-use mathlib.Core.Path.{_≡_}
-use mathlib.Core.Bool.{Bool}
 use lib.Dec.{eqb}
 use lib.IntN.{pos}
-use lib.ListN.{length}
-use Prim.Native.Nat.{_<_}
-use Rattle.numbers_bits.specs.Bit.{inSet}
 use Rattle.rules_walks.specs.Choose.{choose}
 use Rattle.rules_walks.specs.First.{Sought, one, missing}
 use Rattle.rules_numbers.specs.Word.{signed, word}
@@ -19,7 +14,7 @@ use Rattle.rules_tables.specs.Ids.{firstVariable, variables, variableFrame, tra
 use Rattle.rules_tables.specs.Owned.{rank, nth}
 use Rattle.rules_store.specs.Word.{Store, chartState, value, buffer, runningOf}
 use Rattle.rules_moves.specs.Partner.{inputOwner, variableOwner}
-use Rattle.rules_moves.specs.Associated.{joinsVariable, associated}
+use Rattle.rules_moves.specs.Associated.{associated}
 use Rattle.rules_moves.specs.Take.{firedBy}
 use Rattle.rules_moves.specs.Chart.{elementOf}
 use Rattle.rules_moves.specs.declared.Next.{Next}
@@ -34,15 +29,6 @@ use Rattle.rules_traces.specs.Trace.{differing, startedEntry, finishedAtOnce, s
 -- variable v, if it is associated with the event: it gets value from buffer
 unfoldable pub sampledEntry : Table → Shape → (i : ℕ) → Store → (v : ℕ) → List Entry
 sampledEntry T S i s v = choose (associated T S i v) (differing (value S s v) (entry inputKind (variableOwner T S v) v (buffer S s v))) []
-
--- association j joins the event and variable v
-abbrev pub joins : Table → Shape → (i v j : ℕ) → Bool
-joins T S i v j = joinsVariable T S i v j
-
--- the set m has exactly the variables that are associated with the event
-pub record Associates (T : Table) (S : Shape) (i : ℕ) (m : List ℕ) : Type 0 where
-  pub long : length m ≡ 16
-  pub at : (v : ℕ) → v < 512 → inSet m v ≡ associated T S i v
 
 -- the input whose partner output variable u is
 unfoldable pub sourceOf : Table → Shape → (u : ℕ) → Sought

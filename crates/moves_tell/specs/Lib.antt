@@ -1,5 +1,4 @@
 pub mod Before
-pub mod Behind
 pub mod Pairs
 pub mod Telling
 pub mod Told

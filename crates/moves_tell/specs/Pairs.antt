@@ -1,17 +1,18 @@
--- How far an interface's outputs are told: v and u are the places behind the last input and output that were paired.
-use Prim.Native.Nat.{ℕ, _≤_}
-use mathlib.Core.Path.{_≡_}
-use mathlib.Core.List.{List}
-use Rattle.rules_tables.specs.Kind.{input, output}
+-- What an interface's outputs get, told along its inputs: the k-th input and the k-th output belong together.
+use Prim.Native.Nat.{ℕ}
+use mathlib.Core.List.{List, []}
+use Rattle.rules_walks.specs.First.{Sought, one, missing}
+use Rattle.rules_tables.specs.Frame.{Table}
 use Rattle.rules_tables.specs.declared.Shape.{Shape}
-use Rattle.rules_tables.specs.Ids.{firstVariable, variables}
-use Rattle.rules_tables.specs.Owned.{rank}
-use Rattle.rules_traces.specs.Gather.{gather}
-use Rattle.moves_tell.specs.Before.{passedEntry}
-use Rattle.moves_tell.specs.Told.{Told}
+use Rattle.rules_store.specs.Word.{Store}
+use Rattle.rules_moves.specs.Partner.{partnerVariable}
+use Rattle.rules_traces.specs.declared.Entry.{Entry}
+use Rattle.moves_tell.specs.Before.{passedFrom}
 
-pub record Pairs (T : List ℕ) (S : Shape) (i el : ℕ) (s : List ℕ) (at : ℕ) (tr tr′ : List ℕ) (v u p : ℕ) : Type 0 where
-  pub v-in : v ≤ variables S
-  pub u-in : u ≤ variables S
-  pub level : rank T (firstVariable S) input el v ≡ rank T (firstVariable S) output el u
-  pub told : Told (gather (passedEntry T S i s) u) at tr tr′ p
+-- the partner of input v, if it has one, gets what v got
+unfoldable pub passedTo : Table → Shape → (i : ℕ) → Store → (v : ℕ) → Sought → List Entry
+passedTo T S i s v (one u) = passedFrom T S i s u v
+passedTo T S i s v missing = []
+
+unfoldable pub partnerEntry : Table → Shape → (i : ℕ) → Store → (v : ℕ) → List Entry
+partnerEntry T S i s v = passedTo T S i s v (partnerVariable T S v)

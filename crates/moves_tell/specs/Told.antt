@@ -12,6 +12,10 @@ pub record Told (es : List Entry) (at : ℕ) (tr tr′ : List ℕ) (r : ℕ) : T
   pub bytes-are : tr′ ≡ sets tr at (entryFrames es)
   pub place-is : r ≡ at + length (entryFrames es)
 
+-- they have z bytes
+pub record Sized (es : List Entry) (z : ℕ) : Type 0 where
+  pub size-is : z ≡ length (entryFrames es)
+
 -- they have room
 pub record Room (es : List Entry) (at : ℕ) (tr : List ℕ) : Type 0 where
   pub enough : at + length (entryFrames es) ≤ length tr

@@ -1,7 +1,7 @@
 pub mod Before
 pub mod Most
-pub mod Pairs
 pub mod Partners
+pub mod Sized
 pub mod Sizing
 pub mod Taking
 pub mod Telling

@@ -18,12 +18,14 @@ ghost use Rattle.moves_tell.specs.Before.{numbersBy};
 
 pub mod act;
 pub mod entry;
+pub mod sizes;
 pub mod take;
 
 use crate::act::tell_change;
 use crate::act::tell_end;
 use crate::act::tell_idle;
 use crate::act::tell_step;
+use crate::sizes::first_size;
 use crate::take::tell_take;
 use moves_chart::action_number;
 use numbers::word::since;
@@ -112,7 +114,7 @@ fn numbers_size(
 // The most bytes that the frames of a move have: twenty frames, of an interface with eight values.
 pub const MOST: usize = 240;
 
-// How many bytes the frames of the next move have: it is told into a room of its own, and its numbers are foretold.
+// How many bytes the frames of the next move have: those of kinds 0 to 8, and its numbers.
 fn size(
     t: &[u8],
     ix: &[u16; SIZE],
@@ -125,9 +127,7 @@ fn size(
     requires { ⌜ Telling (now t) shape time r n (now store) × Indexed (now t) shape (now ix) ⌝ }
     ensures { λ z. ⌜ z ≡ length (entryFrames (entriesBy (now (t .entry)) shape time n (now (store .entry)))) ⌝ }
 {
-    let mut room = [0u8; MOST];
-    let p = tell(t, ix, store, shape, time, r, n, &mut room, 0);
-    p + numbers_size(t, ix, store, shape, time, r, n)
+    first_size(t, ix, store, shape, time, r, n) + numbers_size(t, ix, store, shape, time, r, n)
 }
 
 // The frames of the next move have room in so many bytes. Where there is room for the most that a move has, how many it has is not asked.

@@ -1,7 +1,7 @@
 // Taking an event: what its inputs get, and what an interface's outputs get from them.
 ghost use mathlib.Core.Path.{_≡_};
 ghost use mathlib.Core.List.{_++_};
-ghost use Prim.Native.Nat.{_<_};
+ghost use Prim.Native.Nat.{_<_, _≤_};
 ghost use Rattle.rules_tables.specs.Frame.{framesOf};
 ghost use Rattle.rules_tables.specs.Good.{Good};
 ghost use Rattle.rules_tables.specs.Ids.{inputs, variables as «variablesOf»};
@@ -9,16 +9,22 @@ ghost use Rattle.rules_moves.specs.Partner.{inputOwner, partnerOutput};
 ghost use Rattle.rules_traces.specs.Traceable.{Traceable};
 ghost use Rattle.rules_traces.specs.Gather.{gather};
 ghost use Rattle.rules_traces.specs.Trace.{emittedEntry, finishedAtOnce};
-ghost use Rattle.moves_tell.specs.Before.{Associates, sampledEntry, passedFrom, passedEntries, takeEntries, takeEvents};
+ghost use Rattle.moves_tell.specs.Before.{sampledEntry, passedEntries, takeEntries, takeEvents};
+ghost use Rattle.moves_tell.specs.Pairs.{partnerEntry};
+ghost use Rattle.rules_moves.specs.Associated.{associated};
+ghost use Rattle.rules_store.specs.Word.{value, buffer};
+ghost use Rattle.rules_walks.specs.Pick.{both};
+ghost use mathlib.Core.Bool.{not};
+ghost use lib.Dec.{eqb};
+ghost use lib.ListN.{length};
+ghost use Rattle.rules_store.specs.Layout.{need};
 ghost use Rattle.moves_tell.specs.Told.{Told, Room};
 ghost use Rattle.table_index.specs.Index.{Indexed};
 use crate::entry::happened;
-use crate::entry::put_differing;
 use crate::entry::put_entry;
 use crate::entry::tell_emitted;
 use moves_fire::partner::partner_output;
-use numbers_bits::has;
-use numbers_bits::mark;
+use moves_fire::partner::partner_variable;
 use rules_tables::Shape;
 use rules_traces::Entry;
 use rules_traces::FINISHED_KIND;
@@ -31,144 +37,158 @@ use store_words::shape::associations;
 use store_words::shape::input_frame;
 use store_words::shape::variable_frame;
 use store_words::shape::variables;
-use store_words::word::buffer_of;
-use store_words::word::value_of;
+use store_words::word::buffer_in;
+use store_words::word::value_in;
 use table_frames::frame::field;
 use table_frames::frame::flag;
 use table_frames::kind::BASIC;
-use table_frames::kind::INPUT;
 use table_frames::kind::INTERFACE;
 use table_frames::kind::OF_INPUT;
-use table_frames::kind::OUTPUT;
 use table_index::index::SIZE;
 use table_index::read::first_association;
+use table_index::read::first_variable;
 use table_index::read::next_association;
+use table_index::read::next_variable;
 use table_parts::Found;
-use table_parts::nth;
 
-// The set of the variables that are associated with event input i.
-fn associated(t: &[u8], ix: &[u16; SIZE], shape: Shape, i: usize) -> [u32; 16]
+// Variable v is associated with event input i, whose associations, eight at most, are gone through.
+fn associates(t: &[u8], ix: &[u16; SIZE], shape: Shape, i: usize, v: usize) -> bool
     requires { ⌜ Good (now t) shape × Indexed (now t) shape (now ix) ⌝ }
-    ensures { λ r. ⌜ Associates (now (t .entry)) shape i r ⌝ }
+    ensures { λ r. ⌜ r ≡ associated (now (t .entry)) shape i v ⌝ }
 {
     let n = associations(shape);
-    let mut m = [0u32; 16];
     let mut j = first_association(t, ix, shape, OF_INPUT, i);
-    while j < n {
-        mark(&mut m, field(t, association_frame(t, shape, j), 1));
+    loop {
+        if n <= j {
+            break false;
+        }
+        if field(t, association_frame(t, shape, j), 1) == v {
+            break true;
+        }
         j = next_association(t, ix, shape, j);
     }
-    m
 }
 
-// Variable v, if it is in the set m of those that are associated: it gets value from buffer.
-fn tell_input(
+// Variable u, which gets what input v gets from its buffer, will differ from before. Most events bring what was there: so the values are compared first.
+pub fn differs(
     t: &[u8],
+    ix: &[u16; SIZE],
     store: &[u32],
     shape: Shape,
     i: usize,
-    m: &[u32; 16],
+    v: usize,
+    u: usize,
+) -> bool
+    requires { ⌜ Good (now t) shape × Indexed (now t) shape (now ix) × (v < variablesOf shape) × (u < variablesOf shape) × (need shape ≤ length (now store)) ⌝ }
+    ensures { λ r. ⌜ r ≡ both (associated (now (t .entry)) shape i v) (not (eqb (value shape (now (store .entry)) u) (buffer shape (now (store .entry)) v))) ⌝ }
+{
+    if value_in(store, shape, u) == buffer_in(store, shape, v) {
+        return false;
+    }
+    associates(t, ix, shape, i, v)
+}
+
+// Input v, if it is associated with the event: it gets value from buffer.
+fn tell_input(
+    t: &[u8],
+    ix: &[u16; SIZE],
+    store: &[u32],
+    shape: Shape,
+    i: usize,
     v: usize,
     trace: &mut [u8],
     at: usize,
 ) -> usize
-    requires { ⌜ Good (now t) shape × Associates (now t) shape i (now m) × (v < variablesOf shape) × Room (sampledEntry (now t) shape i (now store) v) at (now trace) ⌝ }
+    requires { ⌜ Good (now t) shape × Indexed (now t) shape (now ix) × (v < variablesOf shape) × Room (sampledEntry (now t) shape i (now store) v) at (now trace) × (need shape ≤ length (now store)) ⌝ }
     ensures { λ r. ⌜ Told (sampledEntry (now (t .entry)) shape i (now (store .entry)) v) at (now (trace .entry)) (now (trace .exit)) r ⌝ }
 {
-    if !has(m, v) {
+    if !differs(t, ix, store, shape, i, v, v) {
         return at;
     }
     let e = Entry {
         kind: INPUT_KIND,
         block: field(t, variable_frame(t, shape, v), 0),
         id: v,
-        value: buffer_of(store, shape, v),
+        value: buffer_in(store, shape, v),
     };
-    put_differing(trace, at, value_of(store, shape, v), e)
+    put_entry(trace, at, e)
 }
 
-// All inputs, by id.
+// All inputs of element el, by id: the index leads from one to the next.
 fn tell_inputs(
     t: &[u8],
+    ix: &[u16; SIZE],
     store: &[u32],
     shape: Shape,
     i: usize,
-    m: &[u32; 16],
+    el: usize,
     trace: &mut [u8],
     at: usize,
 ) -> usize
-    requires { ⌜ Good (now t) shape × Associates (now t) shape i (now m) × Room (gather (sampledEntry (now t) shape i (now store)) (variablesOf shape)) at (now trace) ⌝ }
+    requires { ⌜ Traceable (now t) shape × (i < inputs shape) × (el ≡ inputOwner (now t) shape i) × Indexed (now t) shape (now ix) × Room (gather (sampledEntry (now t) shape i (now store)) (variablesOf shape)) at (now trace) × (need shape ≤ length (now store)) ⌝ }
     ensures { λ r. ⌜ Told (gather (sampledEntry (now (t .entry)) shape i (now (store .entry))) (variablesOf shape)) at (now (trace .entry)) (now (trace .exit)) r ⌝ }
 {
     let n = variables(shape);
     let mut p = at;
-    let mut v = 0;
+    let mut v = first_variable(t, ix, shape, el);
     while v < n {
-        p = tell_input(t, store, shape, i, m, v, trace, p);
-        v += 1;
+        p = tell_input(t, ix, store, shape, i, v, trace, p);
+        v = next_variable(t, ix, shape, v);
     }
     p
 }
 
-// Output u, whose partner is input v, if v is in the set m of those that are associated: it gets what v got.
+// The partner of input v: it gets what v got, if v is associated with the event.
 fn tell_output(
     t: &[u8],
+    ix: &[u16; SIZE],
     store: &[u32],
     shape: Shape,
     i: usize,
-    m: &[u32; 16],
     v: usize,
-    u: usize,
     trace: &mut [u8],
     at: usize,
 ) -> usize
-    requires { ⌜ Good (now t) shape × Associates (now t) shape i (now m) × (v < variablesOf shape) × (u < variablesOf shape) × Room (passedFrom (now t) shape i (now store) u v) at (now trace) ⌝ }
-    ensures { λ r. ⌜ Told (passedFrom (now (t .entry)) shape i (now (store .entry)) u v) at (now (trace .entry)) (now (trace .exit)) r ⌝ }
+    requires { ⌜ Good (now t) shape × Indexed (now t) shape (now ix) × (v < variablesOf shape) × Room (partnerEntry (now t) shape i (now store) v) at (now trace) × (need shape ≤ length (now store)) ⌝ }
+    ensures { λ r. ⌜ Told (partnerEntry (now (t .entry)) shape i (now (store .entry)) v) at (now (trace .entry)) (now (trace .exit)) r ⌝ }
 {
-    if !has(m, v) {
+    let Found::One(u) = partner_variable(t, ix, shape, v) else {
+        return at;
+    };
+    if !differs(t, ix, store, shape, i, v, u) {
         return at;
     }
     let e = Entry {
         kind: OUTPUT_KIND,
         block: field(t, variable_frame(t, shape, u), 0),
         id: u,
-        value: buffer_of(store, shape, v),
+        value: buffer_in(store, shape, v),
     };
-    put_differing(trace, at, value_of(store, shape, u), e)
+    put_entry(trace, at, e)
 }
 
-// The outputs of interface el, by id, in one pass: the k-th input and the k-th output belong together.
+// The outputs of interface el, by id: the k-th input and the k-th output belong together, so its inputs by id lead to them in their order.
 fn tell_outputs(
     t: &[u8],
+    ix: &[u16; SIZE],
     store: &[u32],
     shape: Shape,
     i: usize,
     el: usize,
-    m: &[u32; 16],
     trace: &mut [u8],
     at: usize,
 ) -> usize
-    requires { ⌜ Traceable (now t) shape × (i < inputs shape) × (el ≡ inputOwner (now t) shape i) × Associates (now t) shape i (now m) × Room (passedEntries (now t) shape i (now store)) at (now trace) ⌝ }
+    requires { ⌜ Traceable (now t) shape × (i < inputs shape) × (el ≡ inputOwner (now t) shape i) × Indexed (now t) shape (now ix) × Room (passedEntries (now t) shape i (now store)) at (now trace) × (need shape ≤ length (now store)) ⌝ }
     ensures { λ r. ⌜ Told (passedEntries (now (t .entry)) shape i (now (store .entry))) at (now (trace .entry)) (now (trace .exit)) r ⌝ }
 {
     let n = variables(shape);
-    let first = shape.outputs_end;
-    let mut v = 0;
-    let mut u = 0;
     let mut p = at;
-    loop {
-        let Found::One(a) = nth(t, first + v, n - v, INPUT, el, 0) else {
-            break p;
-        };
-        let Found::One(b) = nth(t, first + u, n - u, OUTPUT, el, 0) else {
-            break p;
-        };
-        let source = v + a;
-        let target = u + b;
-        p = tell_output(t, store, shape, i, m, source, target, trace, p);
-        v = source + 1;
-        u = target + 1;
+    let mut v = first_variable(t, ix, shape, el);
+    while v < n {
+        p = tell_output(t, ix, store, shape, i, v, trace, p);
+        v = next_variable(t, ix, shape, v);
     }
+    p
 }
 
 // Inputs, and of an interface outputs.
@@ -182,15 +202,14 @@ fn tell_values(
     trace: &mut [u8],
     at: usize,
 ) -> usize
-    requires { ⌜ Traceable (now t) shape × (i < inputs shape) × (el ≡ inputOwner (now t) shape i) × Room (takeEntries (now t) shape i (now store)) at (now trace) × Indexed (now t) shape (now ix) ⌝ }
+    requires { ⌜ Traceable (now t) shape × (i < inputs shape) × (el ≡ inputOwner (now t) shape i) × Room (takeEntries (now t) shape i (now store)) at (now trace) × Indexed (now t) shape (now ix) × (need shape ≤ length (now store)) ⌝ }
     ensures { λ r. ⌜ Told (takeEntries (now (t .entry)) shape i (now (store .entry))) at (now (trace .entry)) (now (trace .exit)) r ⌝ }
 {
-    let m = associated(t, ix, shape, i);
-    let p = tell_inputs(t, store, shape, i, &m, trace, at);
+    let p = tell_inputs(t, ix, store, shape, i, el, trace, at);
     if flag(t, el) != INTERFACE {
         return p;
     }
-    tell_outputs(t, store, shape, i, el, &m, trace, p)
+    tell_outputs(t, ix, store, shape, i, el, trace, p)
 }
 
 // An interface's partner event is emitted.
@@ -254,7 +273,7 @@ pub fn tell_take(
     trace: &mut [u8],
     at: usize,
 ) -> usize
-    requires { ⌜ Traceable (now t) shape × (i < inputs shape) × Room (takeEntries (now t) shape i (now store) ++ takeEvents (now t) shape i) at (now trace) × Indexed (now t) shape (now ix) ⌝ }
+    requires { ⌜ Traceable (now t) shape × (i < inputs shape) × Room (takeEntries (now t) shape i (now store) ++ takeEvents (now t) shape i) at (now trace) × Indexed (now t) shape (now ix) × (need shape ≤ length (now store)) ⌝ }
     ensures { λ r. ⌜ Told (takeEntries (now (t .entry)) shape i (now (store .entry)) ++ takeEvents (now (t .entry)) shape i) at (now (trace .entry)) (now (trace .exit)) r ⌝ }
 {
     let el = field(t, input_frame(t, shape, i), 0);

@@ -20,14 +20,6 @@ pub fn with_bit(w: u32, j: u32) -> u32
     w | (1 << j)
 }
 
-// Number i is in the set.
-pub fn has(m: &[u32], i: usize) -> bool
-    requires { ⌜ i / 32 < length (now m) ⌝ }
-    ensures { λ r. ⌜ r ≡ inSet (now (m .entry)) i ⌝ }
-{
-    has_bit(m[i / 32], (i % 32) as u32)
-}
-
 // Puts i into the set, and tells whether it was there.
 pub fn mark(m: &mut [u32], i: usize) -> bool
     requires { ⌜ i / 32 < length (now m) ⌝ }

@@ -5,7 +5,7 @@ ghost use Prim.Native.Nat.{_+_, _*_, _<_, _≤_};
 ghost use lib.Dec.{eqb};
 ghost use lib.ListN.{length, getD, set};
 ghost use Rattle.numbers.specs.Bounded.{Bounded};
-ghost use Rattle.rules_tables.specs.Ids.{inputs as «inputsOf»};
+ghost use Rattle.rules_tables.specs.Ids.{inputs as «inputsOf», variables as «variablesOf»};
 ghost use Rattle.rules_store.specs.Layout.{need, elementAt, inputAt, variableAt};
 ghost use Rattle.rules_store.specs.Running.{stepped, charting, entered};
 ghost use Rattle.store_words.specs.Small.{Small};
@@ -273,6 +273,15 @@ pub fn value_of(store: &[u32], shape: Shape, v: usize) -> u32
     word(store, variable_at(shape, v))
 }
 
+// The same of a store that has its need, as `waits`.
+pub fn value_in(store: &[u32], shape: Shape, v: usize) -> u32
+    requires { ⌜ Small shape × (v < variablesOf shape) × (need shape ≤ length (now store)) ⌝ }
+    ensures { λ r. ⌜ r ≡ value shape (now (store .entry)) v ⌝ }
+{
+    let at = variable_at(shape, v);
+    store[at]
+}
+
 // Sets it.
 pub fn put_value(store: &mut [u32], shape: Shape, v: usize, x: u32)
     requires { ⌜ Small shape × (v < 65536) ⌝ }
@@ -287,6 +296,15 @@ pub fn buffer_of(store: &[u32], shape: Shape, v: usize) -> u32
     ensures { λ r. ⌜ r ≡ buffer shape (now (store .entry)) v ⌝ }
 {
     word(store, variable_at(shape, v) + 1)
+}
+
+// The same of a store that has its need.
+pub fn buffer_in(store: &[u32], shape: Shape, v: usize) -> u32
+    requires { ⌜ Small shape × (v < variablesOf shape) × (need shape ≤ length (now store)) ⌝ }
+    ensures { λ r. ⌜ r ≡ buffer shape (now (store .entry)) v ⌝ }
+{
+    let at = variable_at(shape, v) + 1;
+    store[at]
 }
 
 // Sets it.

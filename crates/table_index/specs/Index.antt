@@ -57,6 +57,15 @@ pub record Owners (T : Table) (S : Shape) : Type 0 where
   pub variable-role : (v : ℕ) → v < variables S → flagAt T (variableFrame S v) ≤ 2
   pub action-basic : (j : ℕ) → j < actions S → (fieldAt T (actionFrame S j) 3 ≡ none → ⊥) → flagAt T (fieldAt T (outputFrame S (fieldAt T (actionFrame S j) 3)) 0) ≡ basic
 
+-- ---- what a reader is told: r leads from the j-th of the n frames from `first` on to the next one of its owner, among those with flag g
+pub record Follows (T : Table) (first g n j r : ℕ) : Type 0 where
+  pub next : (x : ℕ) → belongs T first g x j ≡ true → Leads (belongs T first g x) (j + 1) r n
+
+-- the same under either flag
+pub record FollowsEvent (T : Table) (first n j r : ℕ) : Type 0 where
+  pub under : (g : ℕ) → g ≤ 2 → Follows T first g n j r
+
+-- ---- what the index keeps
 -- what an event is followed by
 pub record ByEvent (T : Table) (S : Shape) (ix : List ℕ) : Type 0 where
   pub long : length ix ≡ indexSize
@@ -68,6 +77,11 @@ pub record ByEvent (T : Table) (S : Shape) (ix : List ℕ) : Type 0 where
 pub record ByState (T : Table) (S : Shape) (ix : List ℕ) : Type 0 where
   pub leaving : Chained (ownerAt T (firstTransition S) 0) (firstTransition S) (transitions S) transitionHeads 512 0 ix
   pub acting : Chained (ownerAt T (firstAction S) 0) (firstAction S) (actions S) actionHeads 512 0 ix
+
+-- the inputs of an element
+pub record ByElement (T : Table) (S : Shape) (ix : List ℕ) : Type 0 where
+  pub heads : (x : ℕ) → x < 64 → Leads (belongs T (firstVariable S) input x) 0 (getD ix (variableHeads + x) 0) (variables S)
+  pub nexts : (v : ℕ) → v < variables S → Follows T (firstVariable S) input (variables S) v (getD ix (firstVariable S + v) 0)
 
 -- the partners of event inputs, and of input variables
 abbrev pub OutputPartners : Table → Shape → List ℕ → Type 0
@@ -81,13 +95,6 @@ pub record Indexed (T : Table) (S : Shape) (ix : List ℕ) : Type 0 where
   pub owners : Owners T S
   pub events : ByEvent T S ix
   pub states : ByState T S ix
+  pub elements : ByElement T S ix
   pub output-partners : OutputPartners T S ix
   pub variable-partners : VariablePartners T S ix
-
--- ---- what a reader is told: r leads from the j-th of the n frames from `first` on to the next one of its owner, among those with flag g
-pub record Follows (T : Table) (first g n j r : ℕ) : Type 0 where
-  pub next : (x : ℕ) → belongs T first g x j ≡ true → Leads (belongs T first g x) (j + 1) r n
-
--- the same under either flag
-pub record FollowsEvent (T : Table) (first n j r : ℕ) : Type 0 where
-  pub under : (g : ℕ) → g ≤ 2 → Follows T first g n j r

@@ -35,7 +35,7 @@ const OUTPUT_HEADS: usize = 6400;
 
 pub const OUTPUT_PARTNERS: usize = 6464;
 
-const VARIABLE_HEADS: usize = 6720;
+pub const VARIABLE_HEADS: usize = 6720;
 
 pub const VARIABLE_PARTNERS: usize = 6912;
 

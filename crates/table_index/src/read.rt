@@ -15,6 +15,7 @@ use crate::index::LINK_HEADS;
 use crate::index::OUTPUT_PARTNERS;
 use crate::index::SIZE;
 use crate::index::TRANSITION_HEADS;
+use crate::index::VARIABLE_HEADS;
 use crate::index::VARIABLE_PARTNERS;
 use rules_tables::Shape;
 use store_words::shape::actions;
@@ -22,6 +23,7 @@ use store_words::shape::associations;
 use store_words::shape::connections;
 use store_words::shape::links;
 use store_words::shape::transitions;
+use store_words::shape::variables;
 use table_frames::tally::wide_count;
 
 // The number at i.
@@ -149,4 +151,24 @@ pub fn variable_partner(t: &[u8], ix: &[u16; SIZE], shape: Shape, v: usize) -> u
     ensures { λ r. ⌜ r ≡ partnerAt (now (t .entry)) (firstVariable shape) input (firstVariable shape) (variablesOf shape) output v ⌝ }
 {
     entry(ix, VARIABLE_PARTNERS + v)
+}
+
+// The first input variable of element el.
+pub fn first_variable(t: &[u8], ix: &[u16; SIZE], shape: Shape, el: usize) -> usize
+    requires { ⌜ Indexed (now t) shape (now ix) ⌝ }
+    ensures { λ r. ⌜ Leads (belongs (now (t .entry)) (firstVariable shape) input el) 0 r (variablesOf shape) ⌝ }
+{
+    if el < 64 {
+        entry(ix, VARIABLE_HEADS + el)
+    } else {
+        variables(shape)
+    }
+}
+
+// The next one of the same element.
+pub fn next_variable(t: &[u8], ix: &[u16; SIZE], shape: Shape, v: usize) -> usize
+    requires { ⌜ Indexed (now t) shape (now ix) × (v < variablesOf shape) ⌝ }
+    ensures { λ r. ⌜ Follows (now (t .entry)) (firstVariable shape) input (variablesOf shape) v r ⌝ }
+{
+    entry(ix, shape.outputs_end + v)
 }

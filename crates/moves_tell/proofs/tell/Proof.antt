@@ -12,7 +12,7 @@ enum-known-n : tie.Need-enum-known-n
 enum-known-n c = search needs
 
 tell-take-requires : tie.Need-tell-take-requires
-tell-take-requires c κs = (c .before .before .before .before .before .before .before .pre .0 .traceable, ready-input _ _ (is-ready _ _ _ _ _ _ (c .before .before .before .before .before .before .before .pre .0)) _ (c .before .before .n .given .1), room-same (sym (take-all _ _ _ _ _ _ (c .before .before .before .before .before .before .before .pre .0) _ (c .before .before .n .given .1))) (c .before .before .before .before .before .before .before .pre .1), c .before .before .before .before .before .before .before .pre .2)
+tell-take-requires c κs = (c .before .before .before .before .before .before .before .pre .0 .traceable, ready-input _ _ (is-ready _ _ _ _ _ _ (c .before .before .before .before .before .before .before .pre .0)) _ (c .before .before .n .given .1), room-same (sym (take-all _ _ _ _ _ _ (c .before .before .before .before .before .before .before .pre .0) _ (c .before .before .n .given .1))) (c .before .before .before .before .before .before .before .pre .1), c .before .before .before .before .before .before .before .pre .2, c .before .before .before .before .before .before .before .pre .0 .formed .parts .long)
 
 enum-known-n-2 : tie.Need-enum-known-n-2
 enum-known-n-2 c = search needs

@@ -1,78 +1,41 @@
--- The outputs of an interface and their sources, in one pass: the k-th input and the k-th output belong together.
-use mathlib.Core.Path.{_≡_, refl, sym, ap, subst, _∙_}
-use mathlib.Core.List.{List, [], _++_}
+-- The outputs of an interface and their sources: the k-th input and the k-th output belong together, so what the outputs get by id is what the partners of
+-- the inputs get by the inputs' ids (`in-order`).
+use mathlib.Core.Path.{_≡_, refl, sym, ap, _∙_}
+use mathlib.Core.List.{List, [], _++_, append-nil}
 use mathlib.Core.Bool.{Bool, true, false}
 use mathlib.Core.Logic.{_⊎_, ⊎-elim}
 use Prim.Native.Nat.{ℕ, zero, suc, _+_, _-_, _≤_, _<_}
 use native.Mathlib.Omega.{arith}
 use native.Mathlib.Numerals.{add-one}
 use lib.Dec.{eqb}
-use borrow.Author.Tests.{eq-eqb, ne-eqb, eqb-true, eqb-false}
-use Rattle.rules_walks.specs.Pick.{both}
-use Rattle.rules_walks.specs.laws.Pick.{both-left, both-right, both-intro, both-true, clash, tri}
-use Rattle.rules_walks.specs.Choose.{choose}
+use borrow.Author.Tests.{eq-eqb, eqb-true}
+use Rattle.rules_walks.specs.laws.Pick.{both-left, both-right, both-intro, clash, test-cases, tri}
 use Rattle.rules_walks.specs.laws.Choose.{choose-true, choose-false, by-choose}
 use Rattle.rules_walks.specs.laws.All.{any-witness}
-use Rattle.rules_walks.specs.laws.Count.{count-none, count-hit, count-miss, count-mono, count-past, count-rest}
+use Rattle.rules_walks.specs.laws.Count.{count-none, count-hit, count-miss, count-mono, count-past}
 use Rattle.rules_walks.specs.First.{Sought, one, missing}
-use Rattle.rules_walks.specs.laws.First.{first-means, first-in, first-true, first-missing}
+use Rattle.rules_walks.specs.laws.First.{first-in}
 use Rattle.rules_tables.specs.Kind.{input, output, ofInput}
 use Rattle.rules_tables.specs.Frame.{flagAt, fieldAt}
 use Rattle.rules_tables.specs.declared.Shape.{Shape}
-use Rattle.rules_tables.specs.Ids.{firstVariable, inputs, variables, associations, associationFrame, variableFrame}
+use Rattle.rules_tables.specs.Ids.{firstVariable, variables, associations, associationFrame, variableFrame}
 use Rattle.rules_tables.specs.Owned.{belongs, rank, isNth, nth}
 use Rattle.rules_tables.specs.laws.Owned.{nth-own, nth-belongs, nth-rank}
+use Rattle.table_index.specs.Leads.{orEnd}
+use Rattle.table_index.specs.laws.Nth.{nth-none, nth-later}
+use Rattle.table_index.specs.laws.Owned.{belongs-flag}
 use Rattle.rules_moves.specs.Partner.{inputOwner, variableOwner, partnerVariable}
 use Rattle.rules_moves.specs.Carry.{voice, speaks}
 use Rattle.rules_moves.specs.laws.Carry.{of-input, of-event}
 use Rattle.rules_moves.specs.Associated.{joinsVariable, associated}
 use Rattle.rules_traces.specs.declared.Entry.{Entry}
 use Rattle.rules_traces.specs.Gather.{gather}
-use Rattle.rules_traces.specs.laws.Gather.{gather-next, gather-rest}
+use Rattle.rules_traces.specs.laws.Gather.{gather-none, gather-next, gather-rest}
 use Rattle.rules_traces.specs.Traceable.{Traceable}
-use Rattle.moves_tell.specs.Behind.{Behind}
-use Rattle.moves_tell.specs.Before.{sourceOf, passedFrom, passedBy, passedEntry, passedEntries}
+use Rattle.moves_tell.specs.Before.{sampledEntry, sourceOf, passedFrom, passedBy, passedEntry}
+use Rattle.moves_tell.specs.Pairs.{passedTo, partnerEntry}
 
--- ---- the first behind a place
-module _ (T : List ℕ) (first g x m : ℕ) where
-  later : (i : ℕ) → belongs T (first + m) g x i ≡ belongs T first g x (m + i)
-  unfolding belongs
-  later i = let e : first + m + i ≡ first + (m + i) = omega arith in rw e
-
-  -- no frame before the i-th belongs: the search for the first looks at whether it does
-  empty-before : (n i : ℕ) → ((c : ℕ) → c < i → isNth T (first + m) g x 0 c ≡ false) → rank T (first + m) g x i ≡ 0
-  unfolding isNth
-  empty-before n zero h = count-none (belongs T (first + m) g x)
-  empty-before n (suc i) h =
-      let e = empty-before n i (λ c l. h c (omega arith)) in
-      let b : belongs T (first + m) g x i ≡ false = sym (both-true (belongs T (first + m) g x i)) ∙ (rw (eq-eqb _ 0 e) at (h i (omega arith))) in
-      rw (← add-one i) (count-miss (belongs T (first + m) g x) i b ∙ e)
-
-  not-own : (i : ℕ) → ((c : ℕ) → c < i → isNth T (first + m) g x 0 c ≡ false) → isNth T (first + m) g x 0 i ≡ false → belongs T first g x (m + i) ≡ false
-  unfolding isNth
-  not-own i h e = sym (later i) ∙ sym (both-true (belongs T (first + m) g x i)) ∙ (rw (eq-eqb _ 0 (empty-before 0 i h)) at e)
-
-  unowned : (i c : ℕ) → ((d : ℕ) → d < i → isNth T (first + m) g x 0 d ≡ false) → m ≤ c → c < m + i → belongs T first g x c ≡ false
-  unowned i c h l k =
-      let d = c - m in
-      let z : m + d ≡ c = omega arith in
-      rw z at (not-own d (λ j q. h j (omega arith)) (h d (omega arith)))
-
-  pub found-behind : (n a : ℕ) → m ≤ n → nth T (first + m) (n - m) g x 0 ≡ one a → Behind T first n g x m a
-  found-behind n a l e =
-      let w = first-means (isNth T (first + m) g x 0) 0 (n - m) a e in
-      let h : (c : ℕ) → c < a → isNth T (first + m) g x 0 c ≡ false = λ c q. w .least c (omega arith) q in
-      record {
-        inside = let b = w .below in omega arith;
-        own = sym (later a) ∙ nth-belongs T (first + m) (n - m) g x 0 a e;
-        level = count-rest (belongs T first g x) m (m + a) (omega arith) (λ c p q. unowned a c h p q);
-        none = λ c p q. unowned a c h p q;
-      }
-
-  pub none-behind : (n : ℕ) → nth T (first + m) (n - m) g x 0 ≡ missing → (c : ℕ) → m ≤ c → c < n → belongs T first g x c ≡ false
-  none-behind n e c p q = unowned (n - m) c (λ d l. first-missing (isNth T (first + m) g x 0) 0 (n - m) e d (omega arith) (omega arith)) p (omega arith)
-
--- ---- the outputs of interface el, whose event input i is taken
+-- element el, whose event input i is taken
 module _ (T : List ℕ) (S : Shape) (k : Traceable T S) (i el : ℕ) (is : el ≡ inputOwner T S i) (s : List ℕ) where
   abbrev inputAt : ℕ → Bool
   inputAt v = belongs T (firstVariable S) input el v
@@ -86,31 +49,43 @@ module _ (T : List ℕ) (S : Shape) (k : Traceable T S) (i el : ℕ) (is : el �
   abbrev beforeOut : ℕ → ℕ
   beforeOut u = rank T (firstVariable S) output el u
 
-  -- a variable that is associated with the event is the element's
-  associated-own : (v : ℕ) → associated T S i v ≡ true → variableOwner T S v ≡ el
-  unfolding joinsVariable
+  -- ---- a variable that is associated with the event is an input of the element
+  associated-own : (v : ℕ) → associated T S i v ≡ true → inputAt v ≡ true
+  unfolding joinsVariable belongs
   associated-own v h =
       let w = any-witness (joinsVariable T S i v) (associations S) h in
       let j = w .which in
       let a = both-left (speaks T S (voice ofInput i) j) (eqb (fieldAt T (associationFrame S j) 1) v) (w .passes) in
       let b = eqb-true (fieldAt T (associationFrame S j) 1) v (both-right (speaks T S (voice ofInput i) j) (eqb (fieldAt T (associationFrame S j) 1) v) (w .passes)) in
-      ap (variableOwner T S) (sym b) ∙ k .association-own j (w .below) (of-input T S i j a) ∙ ap (inputOwner T S) (of-event T S i j a) ∙ sym is
+      let f = k .is-lawful .is-good .association-input j (w .below) (of-input T S i j a) in
+      let o = ap (variableOwner T S) (sym b) ∙ k .association-own j (w .below) (of-input T S i j a) ∙ ap (inputOwner T S) (of-event T S i j a) ∙ sym is in
+      both-intro (eqb (flagAt T (variableFrame S v)) input) (eqb (variableOwner T S v) el) (eq-eqb (flagAt T (variableFrame S v)) input (rw b at f)) (eq-eqb (variableOwner T S v) el o)
 
-  owner-in : (g c : ℕ) → (g ≡ 256 → ⊥) → belongs T (firstVariable S) g el c ≡ true → (flagAt T (variableFrame S c) ≡ g) × (variableOwner T S c ≡ el)
-  unfolding belongs
-  owner-in g c n h =
-      let e : both (eqb (flagAt T (variableFrame S c)) g) (eqb (variableOwner T S c) el) ≡ true = rw (ne-eqb g 256 n) at h in
-      (eqb-true _ g (both-left (eqb (flagAt T (variableFrame S c)) g) (eqb (variableOwner T S c) el) e), eqb-true _ el (both-right (eqb (flagAt T (variableFrame S c)) g) (eqb (variableOwner T S c) el) e))
+  unassociated : (v : ℕ) → inputAt v ≡ false → associated T S i v ≡ false
+  unassociated v h = ⊎-elim (λ a. clash (sym h ∙ associated-own v a)) (λ a. a) (test-cases (associated T S i v))
 
-  -- the source of an output is of the same element
+  -- another variable gets nothing, and has its partner get nothing
+  pub not-sampled : (v : ℕ) → inputAt v ≡ false → sampledEntry T S i s v ≡ []
+  unfolding sampledEntry
+  not-sampled v h = choose-false _ _ [] (unassociated v h)
+
+  pub not-passed : (v : ℕ) → inputAt v ≡ false → partnerEntry T S i s v ≡ []
+  unfolding partnerEntry passedTo passedFrom
+  not-passed v h = by (partnerVariable T S v)
+    where
+      by : (q : Sought) → passedTo T S i s v q ≡ []
+      by (one u) = choose-false _ _ [] (unassociated v h)
+      by missing = refl
+
+  -- ---- the source of an output is of the same element
   source-owner : (u v : ℕ) → sourceOf T S u ≡ one v → variableOwner T S v ≡ variableOwner T S u
-  unfolding sourceOf belongs
+  unfolding sourceOf
   source-owner u v e =
-      let h = nth-belongs T (firstVariable S) (variables S) input (variableOwner T S u) (rank T (firstVariable S) output (variableOwner T S u) u) v e in
-      eqb-true _ _ (both-right (eqb (flagAt T (variableFrame S v)) input) (eqb (variableOwner T S v) (variableOwner T S u)) h)
+      belongs-flag T (firstVariable S) input (variableOwner T S u) v
+      (nth-belongs T (firstVariable S) (variables S) input (variableOwner T S u) (rank T (firstVariable S) output (variableOwner T S u) u) v e) .1
 
   -- an output of another element gets nothing
-  pub other-output : (u : ℕ) → outputAt u ≡ false → passedEntry T S i s u ≡ []
+  other-output : (u : ℕ) → outputAt u ≡ false → passedEntry T S i s u ≡ []
   unfolding passedEntry passedBy passedFrom belongs
   other-output u h =
       by-choose (λ (x : List Entry). x ≡ []) (eqb (flagAt T (variableFrame S u)) output) (passedBy T S i s u (sourceOf T S u)) []
@@ -121,25 +96,19 @@ module _ (T : List ℕ) (S : Shape) (k : Traceable T S) (i el : ℕ) (is : el �
 
       by : eqb (flagAt T (variableFrame S u)) output ≡ true → (q : Sought) → sourceOf T S u ≡ q → passedBy T S i s u q ≡ []
       by e (one v) q =
-          by-choose (λ (x : List Entry). x ≡ []) (associated T S i v) _ [] (λ a. absurd (apart e (sym (source-owner u v q) ∙ associated-own v a))) (λ _. refl)
+          by-choose (λ (x : List Entry). x ≡ []) (associated T S i v) _ []
+          (λ a. absurd (apart e (sym (source-owner u v q) ∙ belongs-flag T (firstVariable S) input el v (associated-own v a) .1))) (λ _. refl)
       by e missing q = refl
 
   -- ---- the k-th input and the k-th output
   source-is : (v u : ℕ) → v < variables S → inputAt v ≡ true → outputAt u ≡ true → before v ≡ beforeOut u → sourceOf T S u ≡ one v
   unfolding sourceOf
-  source-is v u l a b e =
-      let o = owner-in output u (λ z. omega arith) b .1 in
-      rw (o, ← e) (nth-own T (firstVariable S) (variables S) input el v l a)
-
-  pair-entry : (v u : ℕ) → v < variables S → inputAt v ≡ true → outputAt u ≡ true → before v ≡ beforeOut u → passedEntry T S i s u ≡ passedFrom T S i s u v
-  unfolding passedEntry passedBy
-  pair-entry v u l a b e =
-      choose-true _ _ [] (eq-eqb _ output (owner-in output u (λ z. omega arith) b .0)) ∙ ap (passedBy T S i s u) (source-is v u l a b e)
+  source-is v u l a b e = let o = belongs-flag T (firstVariable S) output el u b .1 in rw (o, ← e) (nth-own T (firstVariable S) (variables S) input el v l a)
 
   source-found : (c w : ℕ) → outputAt c ≡ true → sourceOf T S c ≡ one w → (w < variables S) × (inputAt w ≡ true) × (before w ≡ beforeOut c)
   unfolding sourceOf
   source-found c w h q =
-      let o = owner-in output c (λ z. omega arith) h .1 in
+      let o = belongs-flag T (firstVariable S) output el c h .1 in
       let e : nth T (firstVariable S) (variables S) input el (beforeOut c) ≡ one w = rw o at q in
       (let l = first-in (isNth T (firstVariable S) input el (beforeOut c)) 0 (variables S) w e in omega arith, nth-belongs T (firstVariable S) (variables S) input el (beforeOut c) w e, nth-rank T (firstVariable S) (variables S) input el (beforeOut c) w e)
 
@@ -153,50 +122,101 @@ module _ (T : List ℕ) (S : Shape) (k : Traceable T S) (i el : ℕ) (is : el �
       by (one w) e = absurd (n w e)
       by missing e = refl
 
-  module _ (v u : ℕ) (lv : v ≤ variables S) (lu : u ≤ variables S) (level : before v ≡ beforeOut u) where
-    -- both found: the next pair
-    module _ (a b : ℕ) (va : nth T (firstVariable S + v) (variables S - v) input el 0 ≡ one a) (ub : nth T (firstVariable S + u) (variables S - u) output el 0 ≡ one b) where
-      vb : Behind T (firstVariable S) (variables S) input el v a
-      vb = found-behind T (firstVariable S) input el v (variables S) a lv va
+  abbrev nthOut : ℕ → Sought
+  nthOut m = nth T (firstVariable S) (variables S) output el m
 
-      ob : Behind T (firstVariable S) (variables S) output el u b
-      ob = found-behind T (firstVariable S) output el u (variables S) b lu ub
+  partner-is : (v : ℕ) → inputAt v ≡ true → partnerVariable T S v ≡ nthOut (before v)
+  unfolding partnerVariable
+  partner-is v a = rw (belongs-flag T (firstVariable S) input el v a .1)
 
-      pub in-range : (v + a < variables S) × (u + b < variables S)
-      in-range = (vb .inside, ob .inside)
+  -- what the partner of an input gets is what the output with as many before it gets
+  pair-entry : (v u : ℕ) → v < variables S → inputAt v ≡ true → nthOut (before v) ≡ one u → partnerEntry T S i s v ≡ passedEntry T S i s u
+  unfolding partnerEntry passedTo passedEntry passedBy
+  pair-entry v u l a e =
+      let b = nth-belongs T (firstVariable S) (variables S) output el (before v) u e in
+      ap (passedTo T S i s v) (partner-is v a ∙ e)
+      ∙ sym
+      (choose-true _ _ [] (eq-eqb (flagAt T (variableFrame S u)) output (belongs-flag T (firstVariable S) output el u b .0 (λ z. omega arith)))
+      ∙ ap (passedBy T S i s u) (source-is v u l a b (sym (nth-rank T (firstVariable S) (variables S) output el (before v) u e))))
 
-      pub pair-told : gather (passedEntry T S i s) (u + b) ≡ gather (passedEntry T S i s) u
-      pair-told = gather-rest (passedEntry T S i s) u (u + b) (omega arith) (λ c p q. other-output c (ob .none c p q))
+  pair-missing : (v : ℕ) → inputAt v ≡ true → nthOut (before v) ≡ missing → partnerEntry T S i s v ≡ []
+  unfolding partnerEntry passedTo
+  pair-missing v a e = ap (passedTo T S i s v) (partner-is v a ∙ e)
 
-      pub pair-is : passedEntry T S i s (u + b) ≡ passedFrom T S i s (u + b) (v + a)
-      pair-is = pair-entry (v + a) (u + b) (vb .inside) (vb .own) (ob .own) (vb .level ∙ level ∙ sym (ob .level))
+  -- ---- the outputs before a place with m of them before it, and those before the m-th, are the same
+  told-before : (m a : ℕ) → a ≤ variables S → beforeOut a ≡ m → gather (passedEntry T S i s) (orEnd (variables S) (nthOut m)) ≡ gather (passedEntry T S i s) a
+  told-before m a l r = by (nthOut m) refl
+    where
+      by : (q : Sought) → nthOut m ≡ q → gather (passedEntry T S i s) (orEnd (variables S) q) ≡ gather (passedEntry T S i s) a
+      by (one u) e = gather-rest (passedEntry T S i s) a u at-most (λ c p q. other-output c (⊎-elim (λ h. absurd (no c p q h)) (λ h. h) (test-cases (outputAt c))))
+        where
+          level : beforeOut u ≡ m
+          level = nth-rank T (firstVariable S) (variables S) output el m u e
 
-      pub pair-level : before (v + a + 1) ≡ beforeOut (u + b + 1)
-      pair-level =
-          let x = count-hit inputAt (v + a) (vb .own) in
-          let y = count-hit outputAt (u + b) (ob .own) in
-          let c = vb .level in
-          let d = ob .level in
-          omega arith
+          at-most : a ≤ u
+          at-most =
+              ⊎-elim (λ (lt : a < u). omega arith)
+              (λ w. ⊎-elim (λ z. omega arith) (λ (gt : u < a). absurd (let c = count-past outputAt u a gt (nth-belongs T (firstVariable S) (variables S) output el m u e) in let y = level in omega arith)) w)
+              (tri a u)
 
-    -- no further output, or no further input
-    pub outputs-done : nth T (firstVariable S + u) (variables S - u) output el 0 ≡ missing → gather (passedEntry T S i s) (variables S) ≡ gather (passedEntry T S i s) u
-    outputs-done e = gather-rest (passedEntry T S i s) u (variables S) lu (λ c p q. other-output c (none-behind T (firstVariable S) output el u (variables S) e c p q))
+          no : (c : ℕ) → a ≤ c → c < u → outputAt c ≡ true → ⊥
+          no c p q h = let x = count-past outputAt c u q h in let y = count-mono outputAt a c p in let z = level in omega arith
+      by missing e = gather-rest (passedEntry T S i s) a (variables S) l (λ c p q. other-output c (⊎-elim (λ h. absurd (no c p q h)) (λ h. h) (test-cases (outputAt c))))
+        where
+          apart : {x : ℕ} → missing ≡ one x → ⊥
+          apart q = let z : _≡_ {A = ℕ} 0 1 = cc in omega arith
 
-    pub inputs-done : nth T (firstVariable S + v) (variables S - v) input el 0 ≡ missing → gather (passedEntry T S i s) (variables S) ≡ gather (passedEntry T S i s) u
-    inputs-done e = gather-rest (passedEntry T S i s) u (variables S) lu (λ c p q. by c p q (outputAt c) refl)
-      where
-        -- an input with as many before it as an output from u on has would stand behind v
-        no-source : (c w : ℕ) → u ≤ c → outputAt c ≡ true → sourceOf T S c ≡ one w → ⊥
-        no-source c w p h q =
-            let r = source-found c w h q in
-            let m = count-mono outputAt u c p in
-            ⊎-elim (λ l. let z = count-past inputAt w v l (r .1) in let y = r .2 in omega arith)
-            (λ l. clash (sym (none-behind T (firstVariable S) input el v (variables S) e w (at-least w l) (r .0)) ∙ r .1)) (tri w v)
-          where
-            at-least : (x : ℕ) → (x ≡ v) ⊎ (v < x) → v ≤ x
-            at-least x l = ⊎-elim (λ z. omega arith) (λ z. omega arith) l
+          no : (c : ℕ) → a ≤ c → c < variables S → outputAt c ≡ true → ⊥
+          no c p q h =
+              let y = count-mono outputAt a c p in
+              let z : m + (beforeOut c - m) ≡ beforeOut c = omega arith in
+              apart (sym (rw z at (nth-later T (firstVariable S) (variables S) output el m (beforeOut c - m) e)) ∙ nth-own T (firstVariable S) (variables S) output el c q h)
 
-        by : (c : ℕ) → u ≤ c → c < variables S → (b : Bool) → outputAt c ≡ b → passedEntry T S i s c ≡ []
-        by c p q false h = other-output c h
-        by c p q true h = none-passed c (λ w. no-source c w p h)
+  -- the inputs before v have their partners get what the outputs before the partner of v get: a turn, and all of them
+  module _ (v : ℕ) (l : v < variables S) (now : gather (partnerEntry T S i s) v ≡ gather (passedEntry T S i s) (orEnd (variables S) (nthOut (before v)))) where
+    skip : inputAt v ≡ false → gather (partnerEntry T S i s) v ++ partnerEntry T S i s v ≡ gather (passedEntry T S i s) (orEnd (variables S) (nthOut (before (v + 1))))
+    skip h = rw (not-passed v h, count-miss inputAt v h) (append-nil _ ∙ now)
+
+    pass : inputAt v ≡ true → (q : Sought) → nthOut (before v) ≡ q
+        → gather (partnerEntry T S i s) v ++ partnerEntry T S i s v ≡ gather (passedEntry T S i s) (orEnd (variables S) (nthOut (before (v + 1))))
+    pass h (one u) e =
+        let b = nth-belongs T (firstVariable S) (variables S) output el (before v) u e in
+        let r = nth-rank T (firstVariable S) (variables S) output el (before v) u e in
+        let m = first-in (isNth T (firstVariable S) output el (before v)) 0 (variables S) u e in
+        let x = count-hit inputAt v h in
+        let y = count-hit outputAt u b in
+        rw (pair-entry v u l h e, now, e) (sym (gather-next (passedEntry T S i s) u) ∙ sym (told-before (before (v + 1)) (u + 1) (omega arith) (omega arith)))
+    pass h missing e =
+        rw (pair-missing v h e, count-hit inputAt v h, nth-none T (firstVariable S) (variables S) output el (before v) e)
+        (append-nil _ ∙ now ∙ ap (λ (q : Sought). gather (passedEntry T S i s) (orEnd (variables S) q)) e)
+
+  so-far : (v : ℕ) → v ≤ variables S → gather (partnerEntry T S i s) v ≡ gather (passedEntry T S i s) (orEnd (variables S) (nthOut (before v)))
+  so-far zero l =
+      gather-none (partnerEntry T S i s)
+      ∙ sym (gather-none (passedEntry T S i s))
+      ∙ sym (told-before (before 0) 0 (omega arith) (count-none outputAt ∙ sym (count-none inputAt)))
+  so-far (suc v) l =
+      let now = so-far v (omega arith) in
+      rw (← add-one v)
+      (gather-next (partnerEntry T S i s) v
+      ∙ ⊎-elim (λ h. pass v (omega arith) now h (nthOut (before v)) refl) (λ h. skip v (omega arith) now h) (test-cases (inputAt v)))
+
+  -- outputs from there on have no source
+  pub in-order : gather (partnerEntry T S i s) (variables S) ≡ gather (passedEntry T S i s) (variables S)
+  in-order = so-far (variables S) (omega arith) ∙ by (nthOut (before (variables S))) refl
+    where
+      by : (q : Sought) → nthOut (before (variables S)) ≡ q → gather (passedEntry T S i s) (orEnd (variables S) q) ≡ gather (passedEntry T S i s) (variables S)
+      by (one u) e = let m = first-in (isNth T (firstVariable S) output el (before (variables S))) 0 (variables S) u e in sym (gather-rest (passedEntry T S i s) u (variables S) (omega arith) (λ c p q. rest c p (test-cases (outputAt c))))
+        where
+          no-source : (c w : ℕ) → u ≤ c → outputAt c ≡ true → sourceOf T S c ≡ one w → ⊥
+          no-source c w p h q =
+              let r = source-found c w h q in
+              let x = count-past inputAt w (variables S) (r .0) (r .1) in
+              let y = count-mono outputAt u c p in
+              let z = nth-rank T (firstVariable S) (variables S) output el (before (variables S)) u e in
+              let o = r .2 in
+              omega arith
+
+          rest : (c : ℕ) → u ≤ c → (outputAt c ≡ true) ⊎ (outputAt c ≡ false) → passedEntry T S i s c ≡ []
+          rest c p w = ⊎-elim (λ h. none-passed c (λ v. no-source c v p h)) (λ h. other-output c h) w
+      by missing e = refl

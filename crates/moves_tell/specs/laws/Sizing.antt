@@ -5,7 +5,7 @@ use mathlib.Core.List.{List, _++_}
 use mathlib.Core.Bool.{true}
 use native.Mathlib.Omega.{arith}
 use lib.Dec.{leb}
-use lib.ListN.{length, length-append}
+use lib.ListN.{length}
 use borrow.Author.Tests.{le-leb}
 use Rattle.rules_tables.specs.declared.Shape.{Shape}
 use Rattle.rules_store.specs.declared.Running.{Running}
@@ -17,9 +17,9 @@ use Rattle.rules_traces.specs.declared.Entry.{Entry}
 use Rattle.rules_traces.specs.Entry.{entryFrames}
 use Rattle.rules_traces.specs.Trace.{numberChanges, firstEntries, entriesBetween, entriesBy}
 use Rattle.moves_tell.specs.Before.{numbersBy}
-use Rattle.moves_tell.specs.Told.{Told, Room}
+use Rattle.moves_tell.specs.Told.{Told, Sized, Room}
 use Rattle.moves_tell.specs.Telling.{Telling}
-use Rattle.moves_tell.specs.laws.Told.{frames-append, frames-length, room-first, room-rest, room-same, told-then, told-same}
+use Rattle.moves_tell.specs.laws.Told.{frames-both, frames-length, room-first, room-rest, room-same, told-then, told-same}
 use Rattle.moves_tell.specs.laws.Most.{most, numbers-by}
 
 module _ (T : List ℕ) (S : Shape) (time : ℕ) (r : Running) (n : Next) (s : List ℕ) (w : Telling T S time r n s) where
@@ -49,15 +49,12 @@ module _ (T : List ℕ) (S : Shape) (time : ℕ) (r : Running) (n : Next) (s : L
   pub few-bytes : length (entryFrames (entriesBy T S time n s)) ≤ 240
   few-bytes = let h = most T S time r n s w in let q = frames-length (entriesBy T S time n s) in omega arith
 
-  pub most-room : (tr : List ℕ) → length tr ≡ 240 → Room (entriesBy T S time n s) 0 tr
-  most-room tr e = record { enough = let h = few-bytes in omega arith }
-
   pub fits-most : (room : ℕ) → 240 ≤ room → true ≡ leb (length (entryFrames (entriesBy T S time n s))) room
   fits-most room l = sym (le-leb _ room (let h = few-bytes in omega arith))
 
-  -- the first told into a room of that length, from its start, and the bytes of the last
-  pub foretold : {tr tr′ : List ℕ} {p z : ℕ} → Told first 0 tr tr′ p → z ≡ length (entryFrames (last (moveBy T S time n s))) → p + z ≡ length (entryFrames (entriesBy T S time n s))
-  foretold d c =
-      let a = d .place-is in
-      let b = ap (λ (x : List Entry). length (entryFrames x)) whole ∙ ap length (frames-append first (last (moveBy T S time n s))) ∙ length-append (entryFrames first) (entryFrames (last (moveBy T S time n s))) in
+  -- the bytes of the first, and those of the last
+  pub size-all : {y z : ℕ} → Sized first y → z ≡ length (entryFrames (last (moveBy T S time n s))) → y + z ≡ length (entryFrames (entriesBy T S time n s))
+  size-all d c =
+      let a = d .size-is in
+      let b = ap (λ (x : List Entry). length (entryFrames x)) whole ∙ frames-both first (last (moveBy T S time n s)) in
       omega arith

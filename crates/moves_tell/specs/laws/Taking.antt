@@ -1,28 +1,33 @@
 -- Turns of the loops that tell what taking an event changes.
 use mathlib.Core.Path.{_≡_, refl, sym, ap, _∙_}
 use mathlib.Core.List.{List, [], _∷_, _++_, append-nil}
-use mathlib.Core.Bool.{Bool, true, false}
-use Prim.Native.Nat.{ℕ, _+_, _-_, _<_}
+use mathlib.Core.Bool.{Bool, true, false, not}
+use mathlib.Core.Logic.{⊎-elim}
+use Prim.Native.Nat.{ℕ, _+_, _<_}
 use native.Mathlib.Omega.{arith}
 use lib.Dec.{eqb}
-use lib.ListN.{replicate}
 use borrow.Author.Tests.{eq-eqb, ne-eqb}
-use Rattle.numbers_bits.specs.Bit.{inSet, added}
-use Rattle.numbers_bits.specs.Marked.{Marked}
-use Rattle.numbers_bits.specs.laws.Marked.{marked-none, marked-more, marked-past}
+use Rattle.rules_walks.specs.Pick.{both}
+use Rattle.rules_walks.specs.laws.Pick.{both-false, both-true, clash, tri}
 use Rattle.rules_walks.specs.Choose.{choose}
 use Rattle.rules_walks.specs.laws.Choose.{choose-true, choose-false}
-use Rattle.rules_walks.specs.First.{one}
-use Rattle.rules_tables.specs.Kind.{basic, interface, ofInput}
+use Rattle.rules_walks.specs.All.{anyTo}
+use Rattle.rules_walks.specs.laws.All.{any-stop, any-at, any-no}
+use Rattle.rules_walks.specs.laws.First.{first-in}
+use Rattle.rules_tables.specs.Kind.{basic, interface, input, output, ofInput}
 use Rattle.rules_tables.specs.Frame.{framesOf, flagAt, fieldAt}
 use Rattle.rules_tables.specs.declared.Shape.{Shape}
 use Rattle.rules_tables.specs.Good.{Good}
-use Rattle.rules_tables.specs.Ids.{firstAssociation, inputs, associations, variables, inputFrame, associationFrame, variableFrame}
-use Rattle.rules_tables.specs.Owned.{belongs}
+use Rattle.rules_tables.specs.Ids.{firstVariable, firstAssociation, inputs, associations, variables, inputFrame, associationFrame, variableFrame}
+use Rattle.rules_tables.specs.Owned.{belongs, rank, isNth}
+use Rattle.table_parts.specs.declared.Found.{Found}
+use Rattle.table_parts.specs.declared.Found.the-variants.{One, Missing}
+use Rattle.table_parts.specs.Found.{foundOf}
+use Rattle.table_parts.specs.laws.Found.{found-one, found-missing}
 use Rattle.table_index.specs.Leads.{Leads}
 use Rattle.moves_fire.specs.laws.Carrying.{speaks-belongs}
 use Rattle.rules_store.specs.Word.{value, buffer}
-use Rattle.rules_moves.specs.Partner.{inputOwner, partnerOutput}
+use Rattle.rules_moves.specs.Partner.{inputOwner, variableOwner, partnerOutput, partnerVariable}
 use Rattle.rules_moves.specs.Associated.{joinsVariable, associated}
 use Rattle.rules_moves.specs.Take.{firedBy}
 use Rattle.rules_traces.specs.declared.Entry.{Entry}
@@ -31,11 +36,8 @@ use Rattle.rules_traces.specs.Entry.{entry}
 use Rattle.rules_traces.specs.Trace.{differing, finishedEntry, finishedAtOnce, startedEntry, selectedEntry, emittedEntry}
 use Rattle.moves_tell.specs.Told.{Told, Room}
 use Rattle.moves_tell.specs.laws.Told.{told-none, told-same, told-4, room-same, room-1, room-2, room-3, room-4}
-use Rattle.moves_tell.specs.Before.{Associates, joins, sampledEntry, passedFrom, passedEntries, takeEvents}
-
--- a variable that an association names has a place in the set
-pub joined-in : (T : List ℕ) (S : Shape) {j f v : ℕ} → Good T S → j < associations S → f ≡ associationFrame S j → v ≡ fieldAt T f 1 → v < 512
-joined-in T S {j} g l p q = let h = g .association-variable j l in let m = g .few-variables in rw (q, p) (omega arith)
+use Rattle.moves_tell.specs.Before.{sampledEntry, passedFrom, passedEntries, takeEvents}
+use Rattle.moves_tell.specs.Pairs.{passedTo, partnerEntry}
 
 -- it is one of the table's
 pub element-in : (T : List ℕ) (S : Shape) (i : ℕ) {el : ℕ} → Good T S → i < inputs S → el ≡ inputOwner T S i → (el < 65536) × (el < framesOf T)
@@ -48,50 +50,89 @@ element-in T S i g l e =
 pub el-is : (T : List ℕ) (S : Shape) (i : ℕ) {f el : ℕ} → Good T S → i < inputs S → f ≡ inputFrame S i → el ≡ fieldAt T f 0 → el ≡ inputOwner T S i
 el-is T S i g l p q = rw (← p) q
 
+-- ---- a value that an event brings: it is told where the variable is associated and the value not as before
+told-alone : (a same : Bool) (e : Entry) → both a (not same) ≡ true → e ∷ [] ≡ choose a (choose same [] (e ∷ [])) []
+unfolding choose
+told-alone true false e h = refl
+told-alone true true e h = clash h
+told-alone false same e h = clash h
+
+untold : (a same : Bool) (e : Entry) → both a (not same) ≡ false → [] ≡ choose a (choose same [] (e ∷ [])) []
+unfolding choose
+untold true false e h = clash (sym h)
+untold true true e h = refl
+untold false same e h = refl
+
 module _ (T : List ℕ) (S : Shape) (i : ℕ) where
-  -- ---- the set of the variables that are associated
-  -- an association that speaks joins its variable, and those that do not speak none
-  joins-none : (j x : ℕ) → belongs T (firstAssociation S) ofInput i j ≡ false → joins T S i x j ≡ false
-  unfolding joinsVariable
-  joins-none j x e = rw (speaks-belongs T S ofInput i j (omega arith) ∙ e)
+  -- ---- a variable is looked for among the associations of the event
+  module _ (v : ℕ) where
+    -- those of other events do not join it
+    joins-none : (j : ℕ) → belongs T (firstAssociation S) ofInput i j ≡ false → joinsVariable T S i v j ≡ false
+    unfolding joinsVariable
+    joins-none j e = rw (speaks-belongs T S ofInput i j (omega arith) ∙ e)
 
-  pub mark-first : {b n : ℕ} → Leads (belongs T (firstAssociation S) ofInput i) 0 b n → Marked (joins T S i) 16 (replicate 16 0) b
-  mark-first {b} l = marked-past (joins T S i) 16 (replicate 16 0) 0 b (l .from) (λ j u v x. joins-none j x (l .skipped j u v)) (marked-none (joins T S i) 16)
+    pub seek-first : {b n : ℕ} → Leads (belongs T (firstAssociation S) ofInput i) 0 b n → anyTo (joinsVariable T S i v) b ≡ false
+    seek-first {b} l = any-no _ b (λ j u. joins-none j (l .skipped j (omega arith) u))
 
-  pub mark-more : (m m′ : List ℕ) (j : ℕ) {f v b n : ℕ} → belongs T (firstAssociation S) ofInput i j ≡ true → Leads (belongs T (firstAssociation S) ofInput i) (j + 1) b n → f ≡ associationFrame S j
-      → v ≡ fieldAt T f 1 → v < 512 → m′ ≡ added m v → Marked (joins T S i) 16 m j → Marked (joins T S i) 16 m′ b
-  unfolding joinsVariable
-  mark-more m m′ j {f} {v} {b} h l p q few u w =
-      rw u
-      (marked-past (joins T S i) 16 (added m v) (j + 1) b (l .from) (λ k a z x. joins-none k x (l .skipped k a z))
-      (marked-more (joins T S i) 16 m j v w (omega arith) (λ x _. rw (speaks-belongs T S ofInput i j (omega arith) ∙ h, q, p))))
+    module _ (j : ℕ) {f x : ℕ} (own : belongs T (firstAssociation S) ofInput i j ≡ true) (p : f ≡ associationFrame S j) (q : x ≡ fieldAt T f 1) where
+      joins-is : joinsVariable T S i v j ≡ eqb x v
+      unfolding joinsVariable
+      joins-is = rw (speaks-belongs T S ofInput i j (omega arith) ∙ own, q, p)
 
-  pub mark-end : (m : List ℕ) (j : ℕ) → j ≡ associations S → Marked (joins T S i) 16 m j → Associates T S i m
-  mark-end m j e w = record { long = w .long; at = λ v l. rw (← e) (w .at v (omega arith)) }
+      pub seek-hit : j < associations S → x ≡ v → true ≡ associated T S i v
+      seek-hit l e = sym (any-stop _ (associations S) j l (joins-is ∙ eq-eqb x v e))
 
-  module _ (s m : List ℕ) (w : Associates T S i m) (v : ℕ) (l : v < 512) {b : Bool} (h : b ≡ inSet m v) where
-    is-associated : associated T S i v ≡ b
-    is-associated = sym (w .at v l) ∙ sym h
+      pub seek-more : {b n : ℕ} → (x ≡ v → ⊥) → Leads (belongs T (firstAssociation S) ofInput i) (j + 1) b n → anyTo (joinsVariable T S i v) j ≡ false → anyTo (joinsVariable T S i v) b ≡ false
+      seek-more {b} d l h =
+          any-no _ b
+          (λ c u.
+          ⊎-elim (λ lt. any-at _ j c lt h) (λ w. ⊎-elim (λ e. ap (joinsVariable T S i v) e ∙ joins-is ∙ ne-eqb x v d) (λ gt. joins-none c (l .skipped c (omega arith) u)) w)
+          (tri c j))
 
-    -- ---- an input
-    pub not-sampled : b ≡ false → [] ≡ sampledEntry T S i s v
-    unfolding sampledEntry
-    not-sampled e = sym (choose-false _ _ [] (is-associated ∙ e))
+    pub seek-end : {j : ℕ} → j ≡ associations S → anyTo (joinsVariable T S i v) j ≡ false → false ≡ associated T S i v
+    seek-end e h = sym (rw e at h)
 
-    pub sampled-is : b ≡ true → {f el x y : ℕ} → f ≡ variableFrame S v → el ≡ fieldAt T f 0 → x ≡ buffer S s v → y ≡ value S s v
-        → differing y (entry inputKind el v x) ≡ sampledEntry T S i s v
-    unfolding sampledEntry
-    sampled-is e p q r u = rw (u, r, q, p) (sym (choose-true _ _ [] (is-associated ∙ e)))
+  -- ---- an input, and an output that gets what input v got: told where it will differ from before
+  module _ (s : List ℕ) (v u : ℕ) {x y : ℕ} (p : x ≡ value S s u) (q : y ≡ buffer S s v) where
+    pub differs-not : x ≡ y → false ≡ both (associated T S i v) (not (eqb (value S s u) (buffer S s v)))
+    differs-not e = rw (eq-eqb (value S s u) (buffer S s v) (sym p ∙ e ∙ q)) (sym (both-false (associated T S i v)))
 
-    -- ---- an output
-    pub not-passed : (u : ℕ) → b ≡ false → [] ≡ passedFrom T S i s u v
-    unfolding passedFrom
-    not-passed u e = sym (choose-false _ _ [] (is-associated ∙ e))
+    pub differs-if : (x ≡ y → ⊥) → {r : Bool} → r ≡ associated T S i v → r ≡ both (associated T S i v) (not (eqb (value S s u) (buffer S s v)))
+    differs-if d h = rw (ne-eqb (value S s u) (buffer S s v) (λ z. d (p ∙ z ∙ sym q))) (h ∙ sym (both-true (associated T S i v)))
 
-    pub passed-is : (u : ℕ) → b ≡ true → {f el x y : ℕ} → f ≡ variableFrame S u → el ≡ fieldAt T f 0 → x ≡ buffer S s v → y ≡ value S s u
-        → differing y (entry outputKind el u x) ≡ passedFrom T S i s u v
-    unfolding passedFrom
-    passed-is u e p q r z = rw (z, r, q, p) (sym (choose-true _ _ [] (is-associated ∙ e)))
+  module _ (s : List ℕ) (v u : ℕ) {b : Bool} (h : b ≡ both (associated T S i v) (not (eqb (value S s u) (buffer S s v)))) where
+    pub passed-none : b ≡ false → [] ≡ passedFrom T S i s u v
+    unfolding passedFrom differing
+    passed-none e = untold (associated T S i v) (eqb (value S s u) (buffer S s v)) _ (sym h ∙ e)
+
+    pub passed-is : b ≡ true → {f el x : ℕ} → f ≡ variableFrame S u → el ≡ fieldAt T f 0 → x ≡ buffer S s v → entry outputKind el u x ∷ [] ≡ passedFrom T S i s u v
+    unfolding passedFrom differing
+    passed-is e p q r = rw (r, q, p) (told-alone (associated T S i v) (eqb (value S s u) (buffer S s v)) _ (sym h ∙ e))
+
+  module _ (s : List ℕ) (v : ℕ) {b : Bool} (h : b ≡ both (associated T S i v) (not (eqb (value S s v) (buffer S s v)))) where
+    pub sampled-none : b ≡ false → [] ≡ sampledEntry T S i s v
+    unfolding sampledEntry differing
+    sampled-none e = untold (associated T S i v) (eqb (value S s v) (buffer S s v)) _ (sym h ∙ e)
+
+    pub sampled-is : b ≡ true → {f el x : ℕ} → f ≡ variableFrame S v → el ≡ fieldAt T f 0 → x ≡ buffer S s v → entry inputKind el v x ∷ [] ≡ sampledEntry T S i s v
+    unfolding sampledEntry differing
+    sampled-is e p q r = rw (r, q, p) (told-alone (associated T S i v) (eqb (value S s v) (buffer S s v)) _ (sym h ∙ e))
+
+  -- the partner of input v, as the search answered
+  module _ (s : List ℕ) (v : ℕ) (r : Found) (e : r ≡ foundOf (partnerVariable T S v)) where
+    pub pass-none : r ≡ Missing → [] ≡ partnerEntry T S i s v
+    unfolding partnerEntry passedTo
+    pass-none d = rw (found-missing (partnerVariable T S v) r e d)
+
+    pub pass-one : {u : ℕ} → r ≡ One u → passedFrom T S i s u v ≡ partnerEntry T S i s v
+    unfolding partnerEntry passedTo
+    pass-one {u} d = rw (found-one (partnerVariable T S v) r u e d)
+
+    pub pass-in : {u : ℕ} → r ≡ One u → u < variables S
+    unfolding partnerVariable
+    pass-in {u} d =
+        let h = first-in (isNth T (firstVariable S) output (variableOwner T S v) (rank T (firstVariable S) input (variableOwner T S v) v)) 0 (variables S) u (found-one (partnerVariable T S v) r u e d) in
+        omega arith
 
   -- ---- inputs, and of an interface outputs
   module _ (s : List ℕ) {g el : ℕ} (a : el ≡ inputOwner T S i) (b : g ≡ flagAt T el) where

@@ -2,6 +2,7 @@
 use Prim.Native.Nat.{ℕ, zero, suc, _+_, _*_, _≤_, _<_}
 use mathlib.Core.Path.{_≡_, refl, sym, ap, subst, _∙_}
 use mathlib.Core.List.{List, [], _∷_, _++_, append-assoc, append-nil}
+use mathlib.Core.Bool.{Bool, false}
 use native.Mathlib.Omega.{arith}
 use lib.ListN.{length, length-append}
 use lib.Seq.{sets, length-sets}
@@ -15,8 +16,9 @@ use Rattle.rules_walks.specs.laws.Choose.{choose-true, choose-false}
 use mathlib.Core.Logic.{⊎-elim}
 use native.Mathlib.Nat.{eq-or-lt-of-le, le-of-suc-le-suc}
 use native.Mathlib.Numerals.{add-one}
+use Rattle.table_index.specs.Leads.{Leads}
 use Rattle.rules_traces.specs.Gather.{gather}
-use Rattle.rules_traces.specs.laws.Gather.{gather-none, gather-next}
+use Rattle.rules_traces.specs.laws.Gather.{gather-none, gather-next, gather-rest}
 use Rattle.rules_traces.specs.Trace.{differing}
 use Rattle.moves_tell.specs.Told.{Told, Room}
 
@@ -39,23 +41,23 @@ frames-length [] = refl
 frames-length (e ∷ es) = simp (length-append, frame-length) (omega (arith, frames-length es))
 
 -- ---- one list after another
-module _ (a b : List Entry) (at : ℕ) (tr : List ℕ) where
-  frames-both : length (entryFrames (a ++ b)) ≡ length (entryFrames a) + length (entryFrames b)
-  frames-both = ap length (frames-append a b) ∙ length-append (entryFrames a) (entryFrames b)
+pub frames-both : (a b : List Entry) → length (entryFrames (a ++ b)) ≡ length (entryFrames a) + length (entryFrames b)
+frames-both a b = ap length (frames-append a b) ∙ length-append (entryFrames a) (entryFrames b)
 
+module _ (a b : List Entry) (at : ℕ) (tr : List ℕ) where
   pub room-first : Room (a ++ b) at tr → Room a at tr
-  room-first w = record { enough = let h = w .enough in let q = frames-both in omega arith }
+  room-first w = record { enough = let h = w .enough in let q = frames-both a b in omega arith }
 
   pub room-rest : {tr′ : List ℕ} {p : ℕ} → Room (a ++ b) at tr → Told a at tr tr′ p → Room b p tr′
   room-rest w d =
       let l = ap length (d .bytes-are) ∙ length-sets tr at (entryFrames a) in
-      record { enough = let h = w .enough in let q = frames-both in let z = d .place-is in omega arith }
+      record { enough = let h = w .enough in let q = frames-both a b in let z = d .place-is in omega arith }
 
   pub told-then : {tr′ tr″ : List ℕ} {p r : ℕ} → Told a at tr tr′ p → Told b p tr′ tr″ r → Told (a ++ b) at tr tr″ r
   told-then d c =
       record {
         bytes-are = and-then tr at _ (entryFrames a) (entryFrames b) (d .place-is) (d .bytes-are) (c .bytes-are) ∙ ap (sets tr at) (sym (frames-append a b));
-        place-is = let q = frames-both in let y = d .place-is in let z = c .place-is in omega arith;
+        place-is = let q = frames-both a b in let y = d .place-is in let z = c .place-is in omega arith;
       }
 
 -- ---- four lists one after another
@@ -104,15 +106,15 @@ unfolding differing
 differing-other {b} e h = choose-false _ [] (e ∷ []) (ne-eqb b (e .value) h)
 
 -- ---- one frame
-module _ (e : Entry) (at : ℕ) (tr : List ℕ) where
-  one-length : length (entryFrames (e ∷ [])) ≡ 12
-  one-length = ap length (frame-one e) ∙ frame-length e
+pub one-length : (e : Entry) → length (entryFrames (e ∷ [])) ≡ 12
+one-length e = ap length (frame-one e) ∙ frame-length e
 
+module _ (e : Entry) (at : ℕ) (tr : List ℕ) where
   pub room-one : Room (e ∷ []) at tr → at + 12 ≤ length tr
-  room-one w = let h = w .enough in let q = one-length in omega arith
+  room-one w = let h = w .enough in let q = one-length e in omega arith
 
   pub told-one : {tr′ : List ℕ} {r : ℕ} → tr′ ≡ sets tr at (entryFrame e) → r ≡ at + 12 → Told (e ∷ []) at tr tr′ r
-  told-one h z = record { bytes-are = h ∙ ap (sets tr at) (sym (frame-one e)); place-is = let q = one-length in omega arith }
+  told-one h z = record { bytes-are = h ∙ ap (sets tr at) (sym (frame-one e)); place-is = let q = one-length e in omega arith }
 
 -- its bytes, as they are written one after another
 pub frame-written : (l l₁ l₂ l₃ l₄ l₅ : List ℕ) (at kind el id x : ℕ) → l₁ ≡ sets l at (traceByte ∷ kind ∷ []) → l₂ ≡ sets l₁ (at + 2) (halfBytes el)
@@ -136,11 +138,11 @@ module _ (f : ℕ → List Entry) where
       (λ lt. let h = gather-grows m n (le-of-suc-le-suc lt) in rw (← add-one n, gather-next f n, length-append) (omega arith))
       (eq-or-lt-of-le l)
 
-  pub told-start : (at : ℕ) (tr : List ℕ) → Told (gather f 0) at tr tr at
+  told-start : (at : ℕ) (tr : List ℕ) → Told (gather f 0) at tr tr at
   told-start at tr = told-same (sym (gather-none f)) (told-none at tr)
 
   module _ (v at : ℕ) (tr : List ℕ) {tr′ : List ℕ} {p : ℕ} (so-far : Told (gather f v) at tr tr′ p) where
-    pub told-more : {tr″ : List ℕ} {r : ℕ} → Told (f v) p tr′ tr″ r → Told (gather f (v + 1)) at tr tr″ r
+    told-more : {tr″ : List ℕ} {r : ℕ} → Told (f v) p tr′ tr″ r → Told (gather f (v + 1)) at tr tr″ r
     told-more d = told-same (sym (gather-next f v)) (told-then (gather f v) (f v) at tr so-far d)
 
     pub room-more : (n : ℕ) → v < n → Room (gather f n) at tr → Room (f v) p tr′
@@ -150,3 +152,14 @@ module _ (f : ℕ → List Entry) where
         let b = frames-length (gather f n) in
         let e = w .enough in
         room-rest (gather f v) (f v) at tr (room-same (gather-next f v) (record { enough = omega arith })) so-far
+
+  -- a loop that goes where it is led, past numbers that tell nothing: at its beginning, and over a turn
+  module _ {p : ℕ → Bool} (silent : (j : ℕ) → p j ≡ false → f j ≡ []) {b n : ℕ} where
+    pub gather-led : {a : ℕ} → Leads p a b n → gather f b ≡ gather f a
+    gather-led {a} l = gather-rest f a b (l .from) (λ j u v. silent j (l .skipped j u v))
+
+    pub told-first : Leads p 0 b n → (at : ℕ) (tr : List ℕ) → Told (gather f b) at tr tr at
+    told-first l at tr = told-same (sym (gather-led l)) (told-start at tr)
+
+    pub told-next : (v at : ℕ) (tr : List ℕ) {tr′ tr″ : List ℕ} {q r : ℕ} → Leads p (v + 1) b n → Told (gather f v) at tr tr′ q → Told (f v) q tr′ tr″ r → Told (gather f b) at tr tr″ r
+    told-next v at tr l so-far d = told-same (sym (gather-led l)) (told-more v at tr so-far d)

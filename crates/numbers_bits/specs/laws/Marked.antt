@@ -2,10 +2,7 @@
 use mathlib.Core.Path.{_≡_, sym, _∙_}
 use mathlib.Core.List.{List}
 use mathlib.Core.Bool.{Bool, true, false}
-use Prim.Native.Nat.{ℕ, zero, suc, _+_, _/_, _≤_, _<_}
-use native.Mathlib.Nat.{eq-or-lt-of-le, le-of-suc-le-suc}
-use native.Mathlib.Numerals.{add-one}
-use native.Mathlib.Omega.{arith}
+use Prim.Native.Nat.{ℕ, _+_, _/_, _<_}
 use lib.Dec.{eqb}
 use lib.ListN.{length, replicate, length-replicate}
 use borrow.Author.Tests.{eqb-true, eqb-false}
@@ -29,14 +26,6 @@ module _ (p : ℕ → ℕ → Bool) (words : ℕ) where
   -- number n has no mark that the set could hold
   pub marked-skip : (m : List ℕ) (n : ℕ) → Marked p words m n → ((i : ℕ) → i / 32 < words → p i n ≡ false) → Marked p words m (n + 1)
   marked-skip m n w h = record { long = w .long; at = λ i l. rw (any-next (p i) n, h i l, either-false) (w .at i l) }
-
-  -- numbers from a to b have no mark that the set could hold
-  pub marked-past : (m : List ℕ) (a b : ℕ) → a ≤ b → ((j : ℕ) → a ≤ j → j < b → (i : ℕ) → p i j ≡ false) → Marked p words m a → Marked p words m b
-  marked-past m a zero l h w = let e : a ≡ 0 = omega arith in rw (← e) w
-  marked-past m a (suc b) l h w =
-      ⊎-elim (λ e. rw (← e) w)
-      (λ lt. rw (← add-one b) (marked-skip m b (marked-past m a b (le-of-suc-le-suc lt) (λ j u v. h j u (omega arith)) w) (λ i _. h b (le-of-suc-le-suc lt) (omega arith) i)))
-      (eq-or-lt-of-le l)
 
   -- number n has the mark x alone
   pub marked-more : (m : List ℕ) (n x : ℕ) → Marked p words m n → x / 32 < words → ((i : ℕ) → i / 32 < words → p i n ≡ eqb x i) → Marked p words (added m x) (n + 1)

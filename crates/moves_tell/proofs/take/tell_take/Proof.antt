@@ -12,7 +12,7 @@ field-requires : tie.Need-field-requires
 field-requires c κs = search needs
 
 tell-values-requires : tie.Need-tell-values-requires
-tell-values-requires c κs = (c .before .before .before .before .before .before .pre .0, c .before .before .before .before .before .before .pre .1, el-is _ _ _ (c .before .before .before .before .before .before .pre .0 .is-lawful .is-good) (c .before .before .before .before .before .before .pre .1) (c .before .before .input-frame .ensures .is) (c .before .field .ensures .0), room-first _ _ _ _ (c .before .before .before .before .before .before .pre .2), c .before .before .before .before .before .before .pre .3)
+tell-values-requires c κs = (c .before .before .before .before .before .before .pre .0, c .before .before .before .before .before .before .pre .1, el-is _ _ _ (c .before .before .before .before .before .before .pre .0 .is-lawful .is-good) (c .before .before .before .before .before .before .pre .1) (c .before .before .input-frame .ensures .is) (c .before .field .ensures .0), room-first _ _ _ _ (c .before .before .before .before .before .before .pre .2), c .before .before .before .before .before .before .pre .3, c .before .before .before .before .before .before .pre .4)
 
 tell-events-requires : tie.Need-tell-events-requires
 tell-events-requires c κs = (c .before .before .before .before .before .before .before .before .before .before .pre .0 .is-lawful .is-good, c .before .before .before .before .before .before .before .before .before .before .pre .1, el-is _ _ _ (c .before .before .before .before .before .before .before .before .before .before .pre .0 .is-lawful .is-good) (c .before .before .before .before .before .before .before .before .before .before .pre .1) (c .before .before .before .before .before .before .input-frame .ensures .is) (c .before .before .before .before .before .field .ensures .0), room-rest _ _ _ _ (c .before .before .before .before .before .before .before .before .before .before .pre .2) (c .before .before .before .tell-values .ensures), c .before .before .before .before .before .before .before .before .before .before .pre .3)

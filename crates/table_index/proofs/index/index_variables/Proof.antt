@@ -32,7 +32,7 @@ same-length c = search needs
 
 -- src/index.rt:123:1
 returns : tie.Need-returns
-returns c = variables-done _ _ (c .before .before .before .before .before .before .before .before .before .before .before .pre .0) (c .before .before .before .before .before .before .before .before .before .before .before .pre .1) (c .before .before .before .before .before .before .before .before .variables .ensures) (c .before .before .before .before .before .before .before .before .before .before .before .pre .2) (c .before .before .before .before .before .before .before .before .before .before .before .pre .3) (c .before .before .before .before .before .before .before .before .before .before .before .pre .4) (c .before .before .before .before .before .before .chain .ensures .1) (c .before .before .pair .ensures .0) (c .before .before .pair .ensures .1)
+returns c = variables-done _ _ (c .before .before .before .before .before .before .before .before .before .before .before .pre .0) (c .before .before .before .before .before .before .before .before .before .before .before .pre .1) (c .before .before .before .before .before .before .before .before .variables .ensures) (c .before .before .before .before .before .before .before .before .before .before .before .pre .2) (c .before .before .before .before .before .before .before .before .before .before .before .pre .3) (c .before .before .before .before .before .before .before .before .before .before .before .pre .4) (c .before .before .before .before .before .before .chain .ensures .0) (c .before .before .before .before .before .before .chain .ensures .1) (c .before .before .pair .ensures .0) (c .before .before .pair .ensures .1)
 
 pub index-variables-spec : {M : Type 1} → statement M
 index-variables-spec =
