@@ -14,19 +14,19 @@ use rules_moves::Key;
 use rules_tables::Shape;
 use store_words::shape::input_frame;
 use store_words::shape::inputs;
-use store_words::word::last_update;
+use store_words::word::last_update_in;
 use store_words::word::waits;
 use table_frames::frame::field;
 use table_frames::frame::flag;
 
 fn key_of(t: &[u8], store: &[u32], shape: Shape, i: usize) -> Key
-    requires { ⌜ Good (now t) shape × (i < inputsOf shape) ⌝ }
+    requires { ⌜ Good (now t) shape × (i < inputsOf shape) × (need shape ≤ length (now store)) ⌝ }
     ensures { λ r. ⌜ r ≡ keyOf (now (t .entry)) shape (now (store .entry)) i ⌝ }
 {
     let f = input_frame(t, shape, i);
     let el = field(t, f, 0);
     Key {
-        last: last_update(store, shape, i),
+        last: last_update_in(store, shape, i),
         priority: field(t, el, 0),
         local: flag(t, f),
     }
@@ -34,10 +34,10 @@ fn key_of(t: &[u8], store: &[u32], shape: Shape, i: usize) -> Key
 
 // Event input i against the key h of another: last update before element priority before local priority. What does not decide is not read.
 fn beats_at(t: &[u8], store: &[u32], shape: Shape, i: usize, h: Key) -> bool
-    requires { ⌜ Good (now t) shape × (i < inputsOf shape) ⌝ }
+    requires { ⌜ Good (now t) shape × (i < inputsOf shape) × (need shape ≤ length (now store)) ⌝ }
     ensures { λ r. ⌜ r ≡ beatsOf (keyOf (now (t .entry)) shape (now (store .entry)) i) h ⌝ }
 {
-    let last = last_update(store, shape, i);
+    let last = last_update_in(store, shape, i);
     if last != h.last {
         return last < h.last;
     }

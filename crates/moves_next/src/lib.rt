@@ -37,9 +37,9 @@ use rules_store::Running;
 use rules_tables::Shape;
 use store_words::shape::action_frame;
 use store_words::shape::input_frame;
-use store_words::word::birth;
+use store_words::word::birth_in;
 use store_words::word::current_event;
-use store_words::word::last_update;
+use store_words::word::last_update_in;
 use store_words::word::put_charting;
 use table_frames::frame::field;
 use table_frames::frame::flag;
@@ -142,11 +142,11 @@ fn take_event(
     out: &mut [u8],
     at: usize,
 ) -> usize
-    requires { ⌜ Good (now t) shape × (i < inputs shape) × (time < 2147483648) × (at + length (putOut (now t) shape i (birthOf shape (now store) i) time (now store)) ≤ length (now out)) × Indexed (now t) shape (now ix) ⌝ }
+    requires { ⌜ Good (now t) shape × (i < inputs shape) × (time < 2147483648) × (at + length (putOut (now t) shape i (birthOf shape (now store) i) time (now store)) ≤ length (now out)) × Indexed (now t) shape (now ix) × (need shape ≤ length (now store)) ⌝ }
     ensures { λ r. ⌜ Received (now (t .entry)) shape i time (now (store .entry)) (now (store .exit)) (now (out .entry)) (now (out .exit)) at r ⌝ }
 {
-    let born = birth(store, shape, i);
-    let last = last_update(store, shape, i);
+    let born = birth_in(store, shape, i);
+    let last = last_update_in(store, shape, i);
     let el = field(t, input_frame(t, shape, i), 0);
     let sort = flag(t, el);
     receive(t, ix, store, shape, sort, el, i, born, last, time, out, at)
@@ -164,7 +164,7 @@ pub fn make(
     out: &mut [u8],
     at: usize,
 ) -> usize
-    requires { ⌜ Good (now t) shape × (r ≡ runningOf (now store)) × (n ≡ nextBy (now t) shape r (now store)) × (time < 2147483648) × (at + sizeBy (now t) shape time n (now store) ≤ length (now out)) × Indexed (now t) shape (now ix) ⌝ }
+    requires { ⌜ Good (now t) shape × (r ≡ runningOf (now store)) × (n ≡ nextBy (now t) shape r (now store)) × (time < 2147483648) × (at + sizeBy (now t) shape time n (now store) ≤ length (now out)) × Indexed (now t) shape (now ix) × (need shape ≤ length (now store)) ⌝ }
     ensures { λ p. ⌜ Made (now (t .entry)) shape time n (now (store .entry)) (now (store .exit)) (now (out .entry)) (now (out .exit)) at p ⌝ }
 {
     match n {

@@ -9,6 +9,7 @@ ghost use Rattle.rules_tables.specs.Frame.{flagAt};
 ghost use Rattle.rules_tables.specs.Good.{Good};
 ghost use Rattle.rules_tables.specs.Ids.{inputs, variables, associations as «associationsOf»};
 ghost use Rattle.store_words.specs.Small.{Small};
+ghost use Rattle.rules_store.specs.Layout.{need};
 ghost use Rattle.rules_store.specs.Word.{value, putValue, buffer};
 ghost use Rattle.rules_moves.specs.Partner.{inputOwner, partnerOutput, partnerVariable};
 ghost use Rattle.rules_moves.specs.Carry.{voice, speaks};
@@ -32,7 +33,7 @@ use store_words::shape::associations;
 use store_words::shape::variables as variables_of;
 use store_words::word::buffer_of;
 use store_words::word::put_due;
-use store_words::word::put_input;
+use store_words::word::put_input_in;
 use store_words::word::put_owner;
 use store_words::word::put_running;
 use store_words::word::put_value;
@@ -182,10 +183,10 @@ pub fn receive(
     out: &mut [u8],
     at: usize,
 ) -> usize
-    requires { ⌜ Good (now t) shape × (i < inputs shape) × Event (now t) shape (now store) i sort el birth last × (time < 2147483648) × (at + length (putOut (now t) shape i birth time (now store)) ≤ length (now out)) × Indexed (now t) shape (now ix) ⌝ }
+    requires { ⌜ Good (now t) shape × (i < inputs shape) × Event (now t) shape (now store) i sort el birth last × (time < 2147483648) × (at + length (putOut (now t) shape i birth time (now store)) ≤ length (now out)) × Indexed (now t) shape (now ix) × (need shape ≤ length (now store)) ⌝ }
     ensures { λ r. ⌜ Received (now (t .entry)) shape i time (now (store .entry)) (now (store .exit)) (now (out .entry)) (now (out .exit)) at r ⌝ }
 {
-    put_input(store, shape, i, 0, 0, 0);
+    put_input_in(store, shape, i, 0, 0, 0);
     match sort {
         BASIC => {
             sample_all(t, ix, store, shape, i);

@@ -1,5 +1,5 @@
-// How many bytes the frames of kinds 0 to 8 have that the next move will tell. It is asked only where little room is left in the trace, so nothing here is
-// quick. The frames are counted and not told: what tells is called at one place alone, in the loop that makes the moves, and the compiler can put it there.
+// How many bytes the frames of kinds 0 to 8 have that the next move will tell. It is asked only where little room is left in the trace, so it may be slow. The
+// frames are counted and not told: what tells is called at one place alone, in the loop that makes the moves, and so the compiler can put it there.
 ghost use mathlib.Core.Path.{_≡_};
 ghost use mathlib.Core.List.{_++_};
 ghost use Prim.Native.Nat.{_<_, _≤_};

@@ -246,12 +246,30 @@ pub fn birth(store: &[u32], shape: Shape, i: usize) -> u32
     word(store, input_at(shape, i) + 1)
 }
 
+// The same of a store that has its need.
+pub fn birth_in(store: &[u32], shape: Shape, i: usize) -> u32
+    requires { ⌜ Small shape × (i < inputsOf shape) × (need shape ≤ length (now store)) ⌝ }
+    ensures { λ r. ⌜ r ≡ birthOf shape (now (store .entry)) i ⌝ }
+{
+    let at = input_at(shape, i) + 1;
+    store[at]
+}
+
 // Its last update.
 pub fn last_update(store: &[u32], shape: Shape, i: usize) -> u32
     requires { ⌜ Small shape × (i < 65536) ⌝ }
     ensures { λ r. ⌜ r ≡ lastUpdate shape (now (store .entry)) i ⌝ }
 {
     word(store, input_at(shape, i) + 2)
+}
+
+// The same of a store that has its need.
+pub fn last_update_in(store: &[u32], shape: Shape, i: usize) -> u32
+    requires { ⌜ Small shape × (i < inputsOf shape) × (need shape ≤ length (now store)) ⌝ }
+    ensures { λ r. ⌜ r ≡ lastUpdate shape (now (store .entry)) i ⌝ }
+{
+    let at = input_at(shape, i) + 2;
+    store[at]
 }
 
 // Sets all three.
@@ -263,6 +281,17 @@ pub fn put_input(store: &mut [u32], shape: Shape, i: usize, flag: u32, birth: u3
     put(store, at, flag);
     put(store, at + 1, birth);
     put(store, at + 2, last);
+}
+
+// The same of a store that has its need.
+pub fn put_input_in(store: &mut [u32], shape: Shape, i: usize, flag: u32, birth: u32, last: u32)
+    requires { ⌜ Small shape × (i < inputsOf shape) × (need shape ≤ length (now store)) ⌝ }
+    ensures { λ _. ⌜ now (store .exit) ≡ putInput shape i flag birth last (now (store .entry)) ⌝ }
+{
+    let at = input_at(shape, i);
+    store[at] = flag;
+    store[at + 1] = birth;
+    store[at + 2] = last;
 }
 
 // The value of variable v.

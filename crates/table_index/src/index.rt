@@ -119,7 +119,7 @@ fn index_outputs(t: &[u8], shape: Shape, ix: &mut [u16])
     );
 }
 
-// The partners of input variables.
+// The input variables of each element, and their partners: these are found along the outputs, whose first entries are used up.
 fn index_variables(t: &[u8], shape: Shape, ix: &mut [u16])
     requires { ⌜ Lawful (now t) shape × Owners (now t) shape × ByEvent (now t) shape (now ix) × ByState (now t) shape (now ix) × OutputPartners (now t) shape (now ix) ⌝ }
     ensures { λ _. ⌜ Indexed (now (t .entry)) shape (now (ix .exit)) ⌝ }

@@ -7,13 +7,13 @@ use mathlib.Core.Path.{_≡_}
 use native.Mathlib.Omega.{arith}
 use Rattle.moves_least.proofs.beats_at.Tie as tie
 
-last-update-requires : tie.Need-last-update-requires
-last-update-requires c κs = search needs
+last-update-in-requires : tie.Need-last-update-in-requires
+last-update-in-requires c κs = search needs
 
 returns : tie.Need-returns
 unfolding beats
 returns c =
-    let read = c .before .before .before .last-update in
+    let read = c .before .before .before .last-update-in in
     let differs : read .result ≡ c .before .before .before .before .before .before .args .h .last → ⊥ = λ e. omega (arith, e, c .before .if1 .taken) in
     rw (← read .ensures, ne-eqb _ _ differs)
 
@@ -32,7 +32,7 @@ field-requires-2 c κs =
 returns-2 : tie.Need-returns-2
 unfolding beats
 returns-2 c =
-    let read = c .before .before .before .before .before .before .before .before .last-update in
+    let read = c .before .before .before .before .before .before .before .before .last-update-in in
     let alike : read .result ≡ c .before .before .before .before .before .before .before .before .before .before .before .args .h .last = omega (arith, c .before .before .before .before .before .before .if1 .left) in
     let element = c .before .before .before .before in
     rw
@@ -44,7 +44,7 @@ flag-requires c κs = search needs
 returns-3 : tie.Need-returns-3
 unfolding beats
 returns-3 c =
-    let read = c .before .before .before .before .before .before .before .before .before .last-update in
+    let read = c .before .before .before .before .before .before .before .before .before .last-update-in in
     let alike : read .result ≡ c .before .before .before .before .before .before .before .before .before .before .before .before .args .h .last = omega (arith, c .before .before .before .before .before .before .before .if1 .left) in
     let element = c .before .before .before .before .before in
     rw
@@ -54,7 +54,7 @@ pub beats-at-spec : {M : Type 1} → statement M
 beats-at-spec =
     tie.close
     (tie.spec
-    last-update-requires
+    last-update-in-requires
     returns
     input-frame-requires
     field-requires

@@ -10,7 +10,7 @@ enum-known-n : tie.Need-enum-known-n
 enum-known-n c = search needs
 
 take-event-requires : tie.Need-take-event-requires
-take-event-requires c κs = (c .before .before .before .before .before .before .before .before .pre .0, ready-input _ _ (answer-ready _ _ _ _ (c .before .before .before .before .before .before .before .before .pre .0) _ (c .before .before .before .before .before .before .before .before .pre .2)) _ (c .before .before .before .n .given .1), c .before .before .before .before .before .before .before .before .pre .3, room-for _ _ _ _ _ _ _ _ (c .before .before .before .n .given .1) (c .before .before .before .before .before .before .before .before .pre .4), c .before .before .before .before .before .before .before .before .pre .5)
+take-event-requires c κs = (c .before .before .before .before .before .before .before .before .pre .0, ready-input _ _ (answer-ready _ _ _ _ (c .before .before .before .before .before .before .before .before .pre .0) _ (c .before .before .before .before .before .before .before .before .pre .2)) _ (c .before .before .before .n .given .1), c .before .before .before .before .before .before .before .before .pre .3, room-for _ _ _ _ _ _ _ _ (c .before .before .before .n .given .1) (c .before .before .before .before .before .before .before .before .pre .4), c .before .before .before .before .before .before .before .before .pre .5, c .before .before .before .before .before .before .before .before .pre .6)
 
 enum-known-n-2 : tie.Need-enum-known-n-2
 enum-known-n-2 c = search needs

@@ -7,8 +7,8 @@ use native.Mathlib.Omega.{arith}
 use Rattle.moves_take.proofs.receive.Statement.{statement}
 use Rattle.moves_take.proofs.receive.Tie as tie
 
-put-input-requires : tie.Need-put-input-requires
-put-input-requires c κs = search needs
+put-input-in-requires : tie.Need-put-input-in-requires
+put-input-in-requires c κs = search needs
 
 sample-all-requires : tie.Need-sample-all-requires
 sample-all-requires c κs = search needs
@@ -35,19 +35,19 @@ same-length : tie.Need-same-length
 same-length c = search needs
 
 returns : tie.Need-returns
-returns c = received-basic _ _ _ _ _ _ _ (c .before .before .before .before .before .before .before .before .before .before .before .before .before .before .before .before .pre .2) (c .before .before .before .before .before .before .before .before .before .before .before .put-input .ensures) (c .before .before .before .before .before .before .before .before .match .keys1) (c .before .before .before .before .before .before .sample-all .ensures) (c .before .before .wake .ensures)
+returns c = received-basic _ _ _ _ _ _ _ (c .before .before .before .before .before .before .before .before .before .before .before .before .before .before .before .before .pre .2) (c .before .before .before .before .before .before .before .before .before .before .before .put-input-in .ensures) (c .before .before .before .before .before .before .before .before .match .keys1) (c .before .before .before .before .before .before .sample-all .ensures) (c .before .before .wake .ensures)
 
 same-length-2 : tie.Need-same-length-2
 same-length-2 c = search needs
 
 returns-2 : tie.Need-returns-2
-returns-2 c = received-interface _ _ _ _ _ _ _ (c .before .before .before .before .before .before .before .before .before .before .before .before .pre .2) (c .before .before .before .before .before .before .before .put-input .ensures) (c .before .before .before .before .match .keys2) (c .before .before .relay .ensures)
+returns-2 c = received-interface _ _ _ _ _ _ _ (c .before .before .before .before .before .before .before .before .before .before .before .before .pre .2) (c .before .before .before .before .before .before .before .put-input-in .ensures) (c .before .before .before .before .match .keys2) (c .before .before .relay .ensures)
 
 same-length-3 : tie.Need-same-length-3
 same-length-3 c = search needs
 
 returns-3 : tie.Need-returns-3
-returns-3 c = received-delay _ _ _ _ _ _ _ (c .before .before .before .before .before .before .before .before .before .before .before .before .before .before .before .before .pre .2) (c .before .before .before .before .before .before .before .before .before .before .before .put-input .ensures) (c .before .before .before .before .before .before .before .before .match .keys3) (c .before .before .before .before .before .before .sample-all2 .ensures) (c .before .before .start-stop .ensures)
+returns-3 c = received-delay _ _ _ _ _ _ _ (c .before .before .before .before .before .before .before .before .before .before .before .before .before .before .before .before .pre .2) (c .before .before .before .before .before .before .before .before .before .before .before .put-input-in .ensures) (c .before .before .before .before .before .before .before .before .match .keys3) (c .before .before .before .before .before .before .sample-all2 .ensures) (c .before .before .start-stop .ensures)
 
 same-length-4 : tie.Need-same-length-4
 same-length-4 c = search needs
@@ -56,19 +56,19 @@ same-length-5 : tie.Need-same-length-5
 same-length-5 c = search needs
 
 returns-4 : tie.Need-returns-4
-returns-4 c = received-sink _ _ _ _ _ _ _ (c .before .before .before .before .before .before .before .before .before .before .before .before .before .before .before .pre .2) (c .before .before .before .before .before .before .before .before .before .before .put-input .ensures) (c .before .before .before .before .before .before .before .match .keys4) (c .before .before .before .before .write-record .ensures)
+returns-4 c = received-sink _ _ _ _ _ _ _ (c .before .before .before .before .before .before .before .before .before .before .before .before .before .before .before .pre .2) (c .before .before .before .before .before .before .before .before .before .before .put-input-in .ensures) (c .before .before .before .before .before .before .before .match .keys4) (c .before .before .before .before .write-record .ensures)
 
 same-length-6 : tie.Need-same-length-6
 same-length-6 c = search needs
 
 returns-5 : tie.Need-returns-5
-returns-5 c = received-no-more _ _ _ _ _ _ _ (c .before .before .before .before .before .before .before .before .before .before .before .before .pre .2) (c .before .before .before .before .before .before .before .put-input .ensures) (c .before .before .before .before .match .rest .0 .0 .0 .1) (c .before .before .before .before .match .rest .0 .0 .1) (c .before .before .before .before .match .rest .0 .1) (c .before .before .before .before .match .rest .1) (c .before .before .sample-all3 .ensures)
+returns-5 c = received-no-more _ _ _ _ _ _ _ (c .before .before .before .before .before .before .before .before .before .before .before .before .pre .2) (c .before .before .before .before .before .before .before .put-input-in .ensures) (c .before .before .before .before .match .rest .0 .0 .0 .1) (c .before .before .before .before .match .rest .0 .0 .1) (c .before .before .before .before .match .rest .0 .1) (c .before .before .before .before .match .rest .1) (c .before .before .sample-all3 .ensures)
 
 pub receive-spec : {M : Type 1} → statement M
 receive-spec =
     tie.close
     (tie.spec
-    put-input-requires
+    put-input-in-requires
     sample-all-requires
     wake-requires
     relay-requires

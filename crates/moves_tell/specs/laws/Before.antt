@@ -6,16 +6,14 @@ use Prim.Native.Nat.{ℕ, _-_, _≤_, _<_}
 use native.Mathlib.Omega.{arith}
 use lib.Dec.{eqb}
 use lib.ListN.{length}
-use borrow.Author.Tests.{eq-eqb, ne-eqb, eqb-true, eqb-false}
-use Rattle.rules_walks.specs.Pick.{both}
+use borrow.Author.Tests.{eq-eqb, eqb-true, eqb-false}
 use Rattle.rules_walks.specs.laws.Pick.{both-left, both-right, both-intro, clash}
 use Rattle.rules_walks.specs.Choose.{choose}
-use Rattle.rules_walks.specs.laws.Choose.{choose-true, choose-false}
 use Rattle.rules_walks.specs.First.{Sought, one, missing}
-use Rattle.rules_tables.specs.Kind.{interface, input, output, internal, ofInput}
+use Rattle.rules_tables.specs.Kind.{interface, input, output, internal}
 use Rattle.rules_tables.specs.Frame.{flagAt, fieldAt}
 use Rattle.rules_tables.specs.declared.Shape.{Shape}
-use Rattle.rules_tables.specs.Ids.{firstVariable, elements, inputs, variables, associations, transitions, actions, steps, associationFrame, variableFrame, stepFrame}
+use Rattle.rules_tables.specs.Ids.{firstVariable, elements, inputs, variables, steps, associationFrame, variableFrame, stepFrame}
 use Rattle.rules_tables.specs.Owned.{belongs, rank, isNth, nth}
 use Rattle.rules_tables.specs.laws.Owned.{nth-own, nth-belongs, nth-rank}
 use Rattle.rules_walks.specs.laws.First.{first-in}
@@ -24,8 +22,6 @@ use Rattle.rules_store.specs.Layout.{need}
 use Rattle.rules_store.specs.Running.{charting, stepped}
 use Rattle.rules_store.specs.Word.{runningOf, putRunning, value, putValue}
 use Rattle.rules_moves.specs.Partner.{inputOwner, variableOwner, partnerVariable}
-use Rattle.rules_moves.specs.laws.Partner.{partner-output}
-use Rattle.rules_moves.specs.Carry.{voice, speaks}
 use Rattle.rules_moves.specs.laws.Carry.{of-input}
 use Rattle.rules_moves.specs.Chart.{elementOf, stateOf}
 use Rattle.rules_moves.specs.Act.{oneStep, stepMove}
@@ -47,7 +43,7 @@ use Rattle.rules_traces.specs.laws.Passed.{partner-owner, partner-level}
 use Rattle.rules_traces.specs.laws.Taken.{input-entry, passed-entry, unpassed-entry, interface-changes, input-changes}
 use Rattle.rules_store.specs.laws.Part.{leaves-all}
 use Rattle.rules_store.specs.Part.{nothing}
-use Rattle.moves_tell.specs.Before.{sampledEntry, sourceOf, passedFrom, passedBy, passedEntry, passedEntries, takeEntries, takeEvents, changeEntries, resultKind, resultOf, resultEntry, stepEntries, changesBefore}
+use Rattle.moves_tell.specs.Before.{sampledEntry, sourceOf, passedFrom, passedBy, passedEntry, passedEntries, takeEntries, changeEntries, resultKind, resultOf, resultEntry, stepEntries, changesBefore}
 
 module _ (T : List ℕ) (S : Shape) (k : Traceable T S) (time : ℕ) (s : List ℕ) (long : need S ≤ length s) where
   -- ---- taking event input i

@@ -110,7 +110,8 @@ module _ (T : List ℕ) (S : Shape) (k : Traceable T S) (i el : ℕ) (is : el �
   source-found c w h q =
       let o = belongs-flag T (firstVariable S) output el c h .1 in
       let e : nth T (firstVariable S) (variables S) input el (beforeOut c) ≡ one w = rw o at q in
-      (let l = first-in (isNth T (firstVariable S) input el (beforeOut c)) 0 (variables S) w e in omega arith, nth-belongs T (firstVariable S) (variables S) input el (beforeOut c) w e, nth-rank T (firstVariable S) (variables S) input el (beforeOut c) w e)
+      let l = first-in (isNth T (firstVariable S) input el (beforeOut c)) 0 (variables S) w e in
+      (omega arith, nth-belongs T (firstVariable S) (variables S) input el (beforeOut c) w e, nth-rank T (firstVariable S) (variables S) input el (beforeOut c) w e)
 
   -- an output without a source gets nothing
   none-passed : (c : ℕ) → ((w : ℕ) → sourceOf T S c ≡ one w → ⊥) → passedEntry T S i s c ≡ []
@@ -153,11 +154,11 @@ module _ (T : List ℕ) (S : Shape) (k : Traceable T S) (i el : ℕ) (is : el �
           level : beforeOut u ≡ m
           level = nth-rank T (firstVariable S) (variables S) output el m u e
 
+          behind : u < a → ⊥
+          behind gt = let c = count-past outputAt u a gt (nth-belongs T (firstVariable S) (variables S) output el m u e) in let y = level in omega arith
+
           at-most : a ≤ u
-          at-most =
-              ⊎-elim (λ (lt : a < u). omega arith)
-              (λ w. ⊎-elim (λ z. omega arith) (λ (gt : u < a). absurd (let c = count-past outputAt u a gt (nth-belongs T (firstVariable S) (variables S) output el m u e) in let y = level in omega arith)) w)
-              (tri a u)
+          at-most = ⊎-elim (λ lt. omega arith) (λ w. ⊎-elim (λ z. omega arith) (λ gt. absurd (behind gt)) w) (tri a u)
 
           no : (c : ℕ) → a ≤ c → c < u → outputAt c ≡ true → ⊥
           no c p q h = let x = count-past outputAt c u q h in let y = count-mono outputAt a c p in let z = level in omega arith
@@ -206,7 +207,9 @@ module _ (T : List ℕ) (S : Shape) (k : Traceable T S) (i el : ℕ) (is : el �
   in-order = so-far (variables S) (omega arith) ∙ by (nthOut (before (variables S))) refl
     where
       by : (q : Sought) → nthOut (before (variables S)) ≡ q → gather (passedEntry T S i s) (orEnd (variables S) q) ≡ gather (passedEntry T S i s) (variables S)
-      by (one u) e = let m = first-in (isNth T (firstVariable S) output el (before (variables S))) 0 (variables S) u e in sym (gather-rest (passedEntry T S i s) u (variables S) (omega arith) (λ c p q. rest c p (test-cases (outputAt c))))
+      by (one u) e =
+          let m = first-in (isNth T (firstVariable S) output el (before (variables S))) 0 (variables S) u e in
+          sym (gather-rest (passedEntry T S i s) u (variables S) (omega arith) (λ c p q. rest c p (test-cases (outputAt c))))
         where
           no-source : (c w : ℕ) → u ≤ c → outputAt c ≡ true → sourceOf T S c ≡ one w → ⊥
           no-source c w p h q =

@@ -44,7 +44,8 @@ pub sized-emitted : (T : List ℕ) (S : Shape) (o : ℕ) → Sized (emittedEntry
 unfolding emittedEntry
 sized-emitted T S o = sized-one _
 
-pub sized-events : (T : List ℕ) (S : Shape) (i : ℕ) {el y z : ℕ} → el ≡ inputOwner T S i → Sized (finishedAtOnce T el) y → Sized (emittedEntry T S (firedBy T S i)) z → Sized (takeEvents T S i) (12 + y + 12 + z)
+pub sized-events : (T : List ℕ) (S : Shape) (i : ℕ) {el y z : ℕ} → el ≡ inputOwner T S i → Sized (finishedAtOnce T el) y → Sized (emittedEntry T S (firedBy T S i)) z
+    → Sized (takeEvents T S i) (12 + y + 12 + z)
 unfolding takeEvents
 sized-events T S i is v w = sized-then (sized-then (sized-then (sized-one _) (sized-same (ap (finishedAtOnce T) is) v)) (sized-one _)) w
 

@@ -82,7 +82,8 @@ module _ (T : List ℕ) (S : Shape) (i : ℕ) where
       pub seek-hit : j < associations S → x ≡ v → true ≡ associated T S i v
       seek-hit l e = sym (any-stop _ (associations S) j l (joins-is ∙ eq-eqb x v e))
 
-      pub seek-more : {b n : ℕ} → (x ≡ v → ⊥) → Leads (belongs T (firstAssociation S) ofInput i) (j + 1) b n → anyTo (joinsVariable T S i v) j ≡ false → anyTo (joinsVariable T S i v) b ≡ false
+      pub seek-more : {b n : ℕ} → (x ≡ v → ⊥) → Leads (belongs T (firstAssociation S) ofInput i) (j + 1) b n → anyTo (joinsVariable T S i v) j ≡ false
+          → anyTo (joinsVariable T S i v) b ≡ false
       seek-more {b} d l h =
           any-no _ b
           (λ c u.
@@ -131,7 +132,8 @@ module _ (T : List ℕ) (S : Shape) (i : ℕ) where
     pub pass-in : {u : ℕ} → r ≡ One u → u < variables S
     unfolding partnerVariable
     pass-in {u} d =
-        let h = first-in (isNth T (firstVariable S) output (variableOwner T S v) (rank T (firstVariable S) input (variableOwner T S v) v)) 0 (variables S) u (found-one (partnerVariable T S v) r u e d) in
+        let el = variableOwner T S v in
+        let h = first-in (isNth T (firstVariable S) output el (rank T (firstVariable S) input el v)) 0 (variables S) u (found-one (partnerVariable T S v) r u e d) in
         omega arith
 
   -- ---- inputs, and of an interface outputs

@@ -14,7 +14,7 @@ use lib.Dec.{eqb}
 use borrow.Author.Tests.{eqb-true, eqb-false}
 use Rattle.rules_walks.specs.First.{one}
 use Rattle.rules_tables.specs.Actions.{actionOf}
-use Rattle.rules_tables.specs.laws.Actions.{action-below, action-few}
+use Rattle.rules_tables.specs.laws.Actions.{action-below}
 use Rattle.rules_moves.specs.Chart.{elementOf, stateOf}
 use Rattle.rules_moves.specs.Act.{eventOf}
 use Rattle.rules_moves.specs.Ready.{Ready}
@@ -76,12 +76,6 @@ module _ (T : List ℕ) (S : Shape) (time : ℕ) (r : Running) (n : Next) (s : L
 
   pub end-found : (j : ℕ) → n ≡ End j → actionOf T S (stateOf s) (r .action) ≡ one j
   end-found j e = subst (Means T S r s) e means .found
-
-  pub end-few : (j : ℕ) → n ≡ End j → r .action < 4294967295
-  end-few j e =
-      let l = action-few T S (stateOf s) (r .action) j (end-found j e) in
-      let g = is-good in
-      omega (arith, g .to-actions, g .to-steps, g .to-connections, g .to-links, g .to-end, g .few)
 
   first : firstEntries T S n s (moveBy T S time n s) ≡ changesBefore T S time n s ++ events T S n s
   first = first-is T S (w .traceable) time s (w .formed .parts .long) n is-ready change-in

@@ -161,5 +161,6 @@ module _ (f : ℕ → List Entry) where
     pub told-first : Leads p 0 b n → (at : ℕ) (tr : List ℕ) → Told (gather f b) at tr tr at
     told-first l at tr = told-same (sym (gather-led l)) (told-start at tr)
 
-    pub told-next : (v at : ℕ) (tr : List ℕ) {tr′ tr″ : List ℕ} {q r : ℕ} → Leads p (v + 1) b n → Told (gather f v) at tr tr′ q → Told (f v) q tr′ tr″ r → Told (gather f b) at tr tr″ r
+    pub told-next : (v at : ℕ) (tr : List ℕ) {tr′ tr″ : List ℕ} {q r : ℕ} → Leads p (v + 1) b n → Told (gather f v) at tr tr′ q → Told (f v) q tr′ tr″ r
+        → Told (gather f b) at tr tr″ r
     told-next v at tr l so-far d = told-same (sym (gather-led l)) (told-more v at tr so-far d)

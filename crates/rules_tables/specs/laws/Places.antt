@@ -6,7 +6,6 @@ use mathlib.Core.Logic.{⊎-elim}
 use Prim.Native.Nat.{ℕ, zero, suc, _+_, _-_, _≤_, _<_}
 use native.Mathlib.Nat.{eq-or-lt-of-le, le-of-suc-le-suc, not-suc-le-zero}
 use native.Mathlib.Omega.{arith}
-use native.Mathlib.Numerals.{add-one}
 use lib.Dec.{eqb, ltb, eqb·suc-zero}
 use borrow.Author.Tests.{eqb-true, eqb-false, leb-true, eq-eqb, ne-eqb, lt-ltb, le-ltb}
 use lib.ListN.{length, getD, set}
@@ -68,15 +67,6 @@ module _ (T : List ℕ) where
       let g = count-past (λ i. eqb (kindAt T i) k) f n lt (eq-eqb (kindAt T f) k ek) in
       rw (ne-eqb (countTo T k n) id (λ e. omega arith), both-false) (seek-at k id n f lt ek ec))
       (eq-or-lt-of-le (le-of-suc-le-suc l))
-
-  -- nothing found yet, and frame n is not it
-  pub seek-past-kind : (k id n : ℕ) → (kindAt T n ≡ k → ⊥) → seekTo T k id n ≡ 0 → seekTo T k id (n + 1) ≡ 0
-  unfolding seekTo
-  seek-past-kind k id n ne h = rw (add-one n) (rw (ne-eqb (kindAt T n) k ne) h)
-
-  pub seek-past-id : (k id n : ℕ) → (countTo T k n ≡ id → ⊥) → seekTo T k id n ≡ 0 → seekTo T k id (n + 1) ≡ 0
-  unfolding seekTo
-  seek-past-id k id n ne h = rw (add-one n) (rw (ne-eqb (countTo T k n) id ne, both-false) h)
 
 module _ (T : List ℕ) where
   pub seek-found : (k id n : ℕ) → id < countTo T k n → Found T k id n (seekTo T k id n)

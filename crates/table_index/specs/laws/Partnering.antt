@@ -104,19 +104,23 @@ module _ (T : List ℕ) (S : Shape) (w : Lawful T S) where
         heads x u = let e : 6720 + (64 * 1 + x) ≡ 6784 + x = omega arith in rw e at (role-heads p A 1 (omega arith) x u)
 
     -- the chains of inputs stand: the partners are found along those of outputs
-    inputs-stand : {ix₁ ix₂ : List ℕ} {n : ℕ} → n ≡ variables S → Chained (ownerAt T (firstVariable S) 64) (firstVariable S) n 6720 192 0 ix₁ → Apart 6784 6848 6912 (6912 + n) ix₁ ix₂
-        → ByElement T S ix₂
+    inputs-stand : {ix₁ ix₂ : List ℕ} {n : ℕ} → n ≡ variables S → Chained (ownerAt T (firstVariable S) 64) (firstVariable S) n 6720 192 0 ix₁
+        → Apart 6784 6848 6912 (6912 + n) ix₁ ix₂ → ByElement T S ix₂
     inputs-stand {ix₁} {ix₂} {n} p A b =
         record {
           heads = λ x u. rw (b .kept (6720 + x) (inl (omega arith)) (inl (omega arith)), ← p) (head x u);
-          nexts = λ v u. record { next = λ x h. let l = low-variables in rw (b .kept (firstVariable S + v) (inl (omega arith)) (inl (omega arith)), ← p) (role-nexts p A 0 (omega arith) v x (omega arith) (few v x u h) h) };
+          nexts = λ v u. record { next = λ x h. next v x u h };
         }
       where
         head : (x : ℕ) → x < 64 → Leads (belongs T (firstVariable S) input x) 0 (getD ix₁ (6720 + x) 0) n
         head x u = let e : 6720 + (64 * 0 + x) ≡ 6720 + x = omega arith in rw e at (role-heads p A 0 (omega arith) x u)
 
-        few : (v x : ℕ) → v < variables S → belongs T (firstVariable S) input x v ≡ true → x < 64
-        few v x u h = let e = belongs-flag T (firstVariable S) input x v h .1 in let q = variable-owner v u in omega arith
+        next : (v x : ℕ) → v < variables S → belongs T (firstVariable S) input x v ≡ true → Leads (belongs T (firstVariable S) input x) (v + 1) (getD ix₂ (firstVariable S + v) 0) (variables S)
+        next v x u h =
+            let e = belongs-flag T (firstVariable S) input x v h .1 in
+            let q = variable-owner v u in
+            let l = low-variables in
+            rw (b .kept (firstVariable S + v) (inl (omega arith)) (inl (omega arith)), ← p) (role-nexts p A 0 (omega arith) v x (omega arith) (omega arith) h)
 
     pub variables-done : {ix ix₁ ix₂ : List ℕ} {n : ℕ} → n ≡ variables S → ByEvent T S ix → ByState T S ix → OutputPartners T S ix
         → Chained (ownerAt T (firstVariable S) 64) (firstVariable S) n 6720 192 0 ix₁ → Apart (firstVariable S) (firstVariable S + n) 6720 6912 ix ix₁
