@@ -12,10 +12,10 @@ ghost use Rattle.rules_moves.specs.Next.{moves, moveBy, sizeBy};
 ghost use Rattle.moves_next.specs.Made.{Made};
 ghost use Rattle.moves_tell.specs.Before.{numbersBy};
 ghost use Rattle.moves_tell.specs.Telling.{Telling, Numbered};
-ghost use Rattle.moves_tell.specs.Told.{Told, Room};
+ghost use Rattle.moves_tell.specs.Told.{Room};
 ghost use Rattle.rules_traces.specs.Traceable.{Traceable};
 ghost use Rattle.rules_traces.specs.Entry.{entryFrames};
-ghost use Rattle.rules_traces.specs.Trace.{firstEntries, entriesBy};
+ghost use Rattle.rules_traces.specs.Trace.{entriesBy};
 ghost use Rattle.table_index.specs.Index.{Owners, Indexed};
 ghost use Rattle.calls_run.specs.RunMade.{askedBy, ToldIf, RanAs};
 use moves_next::fits;
@@ -100,24 +100,6 @@ fn asked(
         return 4;
     }
     spent(n, budget)
-}
-
-// The frames of kinds 0 to 8. The compiled code copies what it hands to `tell` where this function begins: so a run without a trace has no copies.
-fn tell_first(
-    t: &[u8],
-    ix: &[u16; SIZE],
-    store: &[u32],
-    shape: Shape,
-    time: u32,
-    r: Running,
-    next: Next,
-    trace: &mut [u8],
-    p: usize,
-) -> usize
-    requires { ⌜ Telling (now t) shape time r next (now store) × Room (firstEntries (now t) shape next (now store) (moveBy (now t) shape time next (now store))) p (now trace) × Indexed (now t) shape (now ix) ⌝ }
-    ensures { λ x. ⌜ Told (firstEntries (now (t .entry)) shape next (now (store .entry)) (moveBy (now (t .entry)) shape time next (now (store .entry)))) p (now (trace .entry)) (now (trace .exit)) x ⌝ }
-{
-    tell(t, ix, store, shape, time, r, next, trace, p)
 }
 
 // Kinds 9 and 10, where the move is told: the store after it has the numbers.
@@ -211,7 +193,7 @@ fn make_moves(
             };
         }
         if tracing {
-            p = tell_first(t, ix, store, shape, time, r, next, trace, p);
+            p = tell(t, ix, store, shape, time, r, next, trace, p);
         }
         let places = make_told(
             t,

@@ -41,8 +41,8 @@ asked-requires c κs =
       c .before .before .before .before .before .before .before .before .before .before .pre .4,
     )
 
-tell-first-requires : tie.Need-tell-first-requires Inv-loop μ-loop
-tell-first-requires c κs =
+tell-requires : tie.Need-tell-requires Inv-loop μ-loop
+tell-requires c κs =
     let start = c .before .before .before .before .before .before .before .before .before .before .before .before .before .before .before .pre in
     let inv = c .before .before .before .before .before .before .before .before .before .before .loop .inv in
     let tells = telling _ _ _ _ _ _ (start .0) (start .1) (start .2) (start .3) (inv .0 .store) (c .before .before .before .before .before .before .before .before .running .ensures) (c .before .before .before .before .before .before .next-move .ensures .0) in
@@ -122,7 +122,7 @@ make-moves-spec =
     running-requires
     next-move-requires
     asked-requires
-    tell-first-requires
+    tell-requires
     make-told-requires
     add-n
     loop-less
