@@ -118,6 +118,21 @@ static inline void interfaces(int n) {
     EACH(k, 5) put(11, 0, sink - 8 + k, sink + k, 0, 0, 0);
 }
 
+/*
+ * The same ring of n interfaces with no sink, and all eight values go round, each to the next place: so in each move all sixteen values of an
+ * interface change, and its trace has the most frames that a move has.
+ */
+static inline void turning(int n) {
+    put(1, 3, n, 0, 0, 0, 0);
+    EACH(i, n) put(1, 1, i, 0, 0, 0, 0);
+    EACH(i, n) put(2, 0, i + 1, 0, 0, 0, 0);
+    EACH(i, n + 1) put(3, 0, i, 0, 0, 0, 0);
+    EACH(i, n) EACH(k, 16) put(4, k / 8, i + 1, 0, k % 8, 0, 0);
+    EACH(i, n) EACH(k, 8) put(5, 0, i, 16 * i + k, 0, 0, 0);
+    EACH(i, n + 1) put(10, 0, i, i % n, 0, 0, 0);
+    EACH(i, n) EACH(k, 8) put(11, 0, 16 * i + 8 + k, 16 * ((i + 1) % n) + (k + 1) % 8, 0, 0, 0);
+}
+
 static const struct network {
     const char *name;
     void (*make)(int n);

@@ -1,6 +1,6 @@
 // The second host of tools/bench: runs a network without a trace and with one, for callgrind to count.
 //
-//   bench-runs NETWORK      NETWORK: worked, ring, long-ring, row or long-row
+//   bench-runs NETWORK      NETWORK: worked, ring, long-ring, row, long-row or turning-row
 //
 // Prints the table's frames, the moves made and the frames told. It stops with 1 where the two runs do not leave the same store and output.
 #include <stdio.h>
@@ -49,5 +49,7 @@ int main(int words, char **word) {
         return interfaces(13), run_both(4, 3000);
     if (strcmp(network, "long-row") == 0)
         return interfaces(25), run_both(4, 3000);
+    if (strcmp(network, "turning-row") == 0)
+        return turning(13), run_both(0, 3000);
     return 2;
 }
