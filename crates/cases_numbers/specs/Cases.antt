@@ -1,23 +1,18 @@
--- The examples of document 01 on numbers, with others at both ends of the range, at a zero divisor and at each guard: one table, one claim.
+-- The examples of document 01 on numbers, with others at both ends of the range and at a zero divisor: one table, one claim.
 use mathlib.Core.List.{List, [], _∷_}
 use Prim.Native.Nat.{ℕ}
 use lib.IntN.{ℤ, pos, negℤ}
-use Rattle.rules_walks.specs.Choose.{choose}
 use Rattle.rules_numbers.specs.Word.{ticksOf}
 use Rattle.rules_numbers.specs.Clip.{lowest, highest}
 use Rattle.rules_numbers.specs.Operation.{operation}
-use Rattle.rules_numbers.specs.Guard.{guarded}
 
--- what is asked: an operation of b, c and the age, a guard of d and e, or a DT's ticks
+-- what is asked: an operation of b, c and the age, or a DT's ticks
 pub data Asked : Type 0 where
   step : ℕ → ℤ → ℤ → ℤ → Asked
-  test : ℕ → ℤ → ℤ → Asked
   wait : ℤ → Asked
 
--- a guard answers 1 where it holds, else 0
 abbrev pub answer : Asked → ℤ
 answer (step op b c age) = operation op b c age
-answer (test guard d e) = choose (guarded guard d e) (pos 1) (pos 0)
 answer (wait dt) = pos (ticksOf dt)
 
 pub record Case : Type 0 where
@@ -55,13 +50,6 @@ cases =
     ∷ gives (step 6 (minus 1) (plus 1) (plus 0)) (minus 1)
     ∷ gives (step 7 (minus 1) (plus 1) (plus 0)) (plus 1)
     ∷ gives (step 8 (minus 1) (plus 1) (plus 9)) (plus 9)
-    ∷ gives (test 0 (plus 1) (plus 0)) (plus 1)
-    ∷ gives (test 1 (minus 1) (minus 1)) (plus 1)
-    ∷ gives (test 2 (minus 1) (plus 1)) (plus 1)
-    ∷ gives (test 3 lowest (plus 0)) (plus 1)
-    ∷ gives (test 3 (plus 5) (plus 5)) (plus 0)
-    ∷ gives (test 4 (plus 5) (plus 5)) (plus 1)
-    ∷ gives (test 4 (plus 0) (minus 1)) (plus 0)
     ∷ gives (wait (plus 50)) (plus 50)
     ∷ gives (wait (minus 1)) (plus 0)
     ∷ []

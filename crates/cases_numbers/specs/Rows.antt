@@ -2,18 +2,15 @@
 use mathlib.Core.List.{List, map}
 use Prim.Native.Nat.{ℕ, zero, suc}
 use lib.IntN.{ℤ, pos, natAbs}
-use Rattle.rules_walks.specs.Choose.{choose}
 use Rattle.rules_numbers.specs.Word.{signed, word, ticksOf}
 use Rattle.rules_numbers.specs.Operation.{operation}
-use Rattle.rules_numbers.specs.Guard.{guarded}
-use Rattle.cases_numbers.specs.Cases.{Asked, step, test, wait, Case, cases}
+use Rattle.cases_numbers.specs.Cases.{Asked, step, wait, Case, cases}
 use Rattle.cases_numbers.specs.declared.Row.{Row}
 
--- a case as a row: what is asked (0 an operation, 1 a guard, 2 a DT's ticks), its number, two words, the age, and what must come out
+-- a case as a row: what is asked (0 an operation, 1 a DT's ticks), its number, two words, the age, and what must come out
 abbrev pub asRow : Asked → ℤ → Row
 asRow (step op b c age) z = (0, op, word b, word c, natAbs age, word z)
-asRow (test guard d e) z = (1, guard, word d, word e, 0, word z)
-asRow (wait dt) z = (2, 0, word dt, 0, 0, word z)
+asRow (wait dt) z = (1, 0, word dt, 0, 0, word z)
 
 abbrev pub rows : List Row
 rows = map (λ (k : Case). asRow (k .asked) (k .want)) cases
@@ -24,8 +21,7 @@ none = (0, 0, 0, 0, 0, 0)
 -- what the definitions answer
 abbrev pub answers : ℕ → ℕ → ℕ → ℕ → ℕ → ℕ
 answers zero n b c age = word (operation n (signed b) (signed c) (pos age))
-answers (suc zero) n b c age = choose (guarded n (signed b) (signed c)) 1 0
-answers (suc (suc what)) n b c age = ticksOf (signed b)
+answers (suc what) n b c age = ticksOf (signed b)
 
 unfoldable pub answered : Row → ℕ
 answered r = answers (r .0) (r .1) (r .2) (r .3) (r .4)

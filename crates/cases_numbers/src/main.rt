@@ -4,10 +4,10 @@ ghost use Prim.Native.Nat.{_<_};
 ghost use lib.ListN.{getD};
 ghost use Rattle.cases_numbers.specs.Rows.{rows, none, answered};
 
-// What is asked (0 an operation, 1 a guard, 2 a DT's ticks), the operation's or guard's number, two words, the age, and what must come out.
+// What is asked (0 an operation, 1 a DT's ticks), the operation's number, two words, the age, and what must come out.
 pub struct Row(pub usize, pub usize, pub u32, pub u32, pub u32, pub u32);
 
-const ROWS: [Row; 29] = [
+const ROWS: [Row; 22] = [
     Row(0, 3, 0x8000_0000, 0, 0, 0x7fff_ffff),
     Row(0, 5, 0x8000_0000, 0xffff_ffff, 0, 0x7fff_ffff),
     Row(0, 5, 0xffff_fff9, 2, 0, 0xffff_fffd),
@@ -28,20 +28,13 @@ const ROWS: [Row; 29] = [
     Row(0, 6, 0xffff_ffff, 1, 0, 0xffff_ffff),
     Row(0, 7, 0xffff_ffff, 1, 0, 1),
     Row(0, 8, 0xffff_ffff, 1, 9, 9),
-    Row(1, 0, 1, 0, 0, 1),
-    Row(1, 1, 0xffff_ffff, 0xffff_ffff, 0, 1),
-    Row(1, 2, 0xffff_ffff, 1, 0, 1),
-    Row(1, 3, 0x8000_0000, 0, 0, 1),
-    Row(1, 3, 5, 5, 0, 0),
-    Row(1, 4, 5, 5, 0, 1),
-    Row(1, 4, 0, 0xffff_ffff, 0, 0),
-    Row(2, 0, 50, 0, 0, 50),
-    Row(2, 0, 0xffff_ffff, 0, 0, 0),
+    Row(1, 0, 50, 0, 0, 50),
+    Row(1, 0, 0xffff_ffff, 0, 0, 0),
 ];
 
 fn main() {
     let mut i = 0;
-    while i < 29 {
+    while i < 22 {
         let row = row_at(i);
         check::expect(answer(row) == row.5);
         i += 1;
@@ -51,13 +44,13 @@ fn main() {
 
 // Case i, as the definitions have it.
 fn row_at(i: usize) -> Row
-    requires { ⌜ i < 29 ⌝ }
+    requires { ⌜ i < 22 ⌝ }
     ensures { λ r. ⌜ r ≡ getD rows i none ⌝ }
 {
     ROWS[i]
 }
 
-// The code's answer to a case; a guard that holds is 1.
+// The code's answer to a case.
 fn answer(row: Row) -> u32
     requires { ⌜ row .4 < 2147483648 ⌝ }
     ensures { λ r. ⌜ r ≡ answered row ⌝ }
@@ -65,11 +58,6 @@ fn answer(row: Row) -> u32
     let what = row.0;
     match what {
         0 => numbers::operation::operate_words(row.1, row.2, row.3, row.4),
-        1 => if numbers::guard::holds_words(row.1, row.2, row.3) {
-            1
-        } else {
-            0
-        },
         _ => numbers::word::ticks(row.2),
     }
 }

@@ -9,13 +9,12 @@ use borrow.Author.Tests.{eqb-false}
 use Rattle.rules_walks.specs.Pick.{pick}
 use Rattle.rules_walks.specs.First.{Sought, one, missing, firstFrom}
 use Rattle.rules_walks.specs.laws.First.{first-start, first-skip, first-hit, first-none}
-use Rattle.rules_numbers.specs.Guard.{guarded}
-use Rattle.rules_tables.specs.Frame.{flagAt, fieldAt}
+use Rattle.rules_tables.specs.Frame.{fieldAt}
 use Rattle.rules_tables.specs.declared.Shape.{Shape}
 use Rattle.rules_tables.specs.Ids.{firstTransition, firstAction, transitions, actions, transitionFrame}
 use Rattle.rules_tables.specs.Owned.{any, belongs, nth}
 use Rattle.rules_tables.specs.Actions.{actionOf, actionNumber}
-use Rattle.rules_moves.specs.Chart.{guardHolds, enabled, transitionOf}
+use Rattle.rules_moves.specs.Chart.{enabled, transitionOf}
 use Rattle.table_parts.specs.declared.Found.{Found}
 use Rattle.table_parts.specs.declared.Found.the-variants.{One, Missing}
 use Rattle.table_parts.specs.Found.{foundOf}
@@ -101,8 +100,3 @@ module _ (T : List ℕ) (S : Shape) (s : List ℕ) (q event live : ℕ) where
 
   pub search-ends : {j : ℕ} → Searching j → transitions S ≤ j → Missing ≡ foundOf (transitionOf T S s q event live)
   search-ends {j} w h = sym (ap foundOf (w .rest ∙ first-none (enabled T S s q event live) j (transitions S) h))
-
--- ---- a guard that holds always
-pub always-holds : (T : List ℕ) (S : Shape) (s : List ℕ) (j : ℕ) {g : ℕ} → g ≡ flagAt T (transitionFrame S j) → g ≡ 0 → true ≡ guardHolds T S s j
-unfolding guardHolds guarded
-always-holds T S s j a b = rw (sym a ∙ b)

@@ -1,17 +1,20 @@
 // The state chart: what moves 2 and 3 look for and leave.
 ghost use mathlib.Core.Path.{_≡_};
-ghost use Prim.Native.Nat.{ℕ, _+_, _<_};
+ghost use Prim.Native.Nat.{_+_, _<_};
 ghost use Rattle.rules_walks.specs.First.{one};
-ghost use Rattle.rules_tables.specs.Frame.{framesOf, fieldAt};
+ghost use Rattle.rules_tables.specs.Frame.{fieldAt};
 ghost use Rattle.rules_tables.specs.Good.{Good};
 ghost use Rattle.rules_tables.specs.Ids.{transitions as «transitionsOf», actions as «actionsOf», transitionFrame};
 ghost use Rattle.table_parts.specs.Found.{foundOf};
 ghost use Rattle.table_index.specs.Index.{Indexed};
 ghost use Rattle.rules_store.specs.Word.{runningOf};
 ghost use Rattle.numbers.specs.Bounded.{Bounded};
-ghost use Rattle.rules_moves.specs.Chart.{heard as «heardOf», guardHolds, enabled as «enabledAt», transitionOf, change as «changeOf», goIdle, elementOf, stateOf};
+ghost use Rattle.rules_moves.specs.Chart.{heard as «heardOf», enabled as «enabledAt», transitionOf, change as «changeOf», goIdle, elementOf, stateOf};
 ghost use Rattle.rules_tables.specs.Actions.{actionOf, actionNumber};
-use numbers::guard::holds_words;
+
+mod guard; // guard.rt: which guard a transition has, and whether it holds
+
+use crate::guard::guard_holds;
 use numbers::word::wide;
 use rules_store::Running;
 use rules_tables::Shape;
@@ -24,9 +27,7 @@ use store_words::word::put_entered;
 use store_words::word::put_owner;
 use store_words::word::put_running;
 use store_words::word::running_element;
-use store_words::word::value_of;
 use table_frames::frame::field;
-use table_frames::frame::flag;
 use table_frames::kind::NONE;
 use table_index::actions::action_of;
 use table_index::index::SIZE;
@@ -34,9 +35,6 @@ use table_index::read::first_transition;
 use table_index::read::next_action;
 use table_index::read::next_transition;
 use table_parts::Found;
-
-// The guard that holds always.
-const ALWAYS: usize = 0;
 
 // The transition's event is none, or is the current event while live.
 fn heard(c: usize, event: usize, live: u32) -> bool
@@ -50,20 +48,6 @@ fn heard(c: usize, event: usize, live: u32) -> bool
         return false;
     }
     c + 1 == event
-}
-
-// The guard of the transition in frame f holds. Where it holds always no variable is read.
-fn guard_holds(t: &[u8], store: &[u32], shape: Shape, f: usize) -> bool
-    requires { ⌜ Good (now t) shape × (f < framesOf (now t)) ⌝ }
-    ensures { λ r. ⌜ ((j : ℕ) → f ≡ transitionFrame shape j → r ≡ guardHolds (now (t .entry)) shape (now (store .entry)) j) ⌝ }
-{
-    let guard = flag(t, f);
-    if guard == ALWAYS {
-        return true;
-    }
-    let d = value_of(store, shape, field(t, f, 3));
-    let e = value_of(store, shape, field(t, f, 4));
-    holds_words(guard, d, e)
 }
 
 // Transition j hears the event and its guard holds, so it is enabled in the state that it leaves.

@@ -1,15 +1,15 @@
--- Laws on signed numbers that several proofs cite: magnitudes of results, what fits the machine's widths, the clip, and the machine's tests.
+-- Laws on signed numbers that several proofs cite: magnitudes of results, what fits the machine's widths, the clip.
 -- A signed local is bits, so each use of it reads `toZ w (ofZ w x)`: `signs` has what `search` needs to remove that.
 -- Assumes nothing.
-use mathlib.Core.Path.{_≡_, refl, sym, ap, _∙_}
+use mathlib.Core.Path.{_≡_, sym, ap, _∙_}
 use mathlib.Core.Bool.{Bool, true, false, cond}
-use Prim.Native.Nat.{ℕ, zero, suc, _+_, _-_, _*_, _≤_, _<_, zero-le}
+use Prim.Native.Nat.{ℕ, zero, suc, _+_, _*_, _≤_, _<_, zero-le}
 use native.Mathlib.Nat.{mul-le-mul-left, mul-le-mul-right, le-trans}
 use native.Mathlib.Omega.{arith}
 use lib.IntN.{ℤ, pos, negsuc, negℤ, _+ℤ_, _-ℤ_, _*ℤ_, +ℤ-idl}
-use lib.Dec.{ltb, eqb}
-use lib.Signed.{mag, ltZ, leZ}
-use borrow.Author.Tests.{ltb-false, eqb-true, eq-eqb, ne-eqb}
+use lib.Dec.{ltb}
+use lib.Signed.{mag, ltZ}
+use borrow.Author.Tests.{ltb-false}
 use borrow.Author.Needs.{needs}
 use mir.Syntax.{w32, w64}
 use mir.Val.{SFits, toZ, ofZ}
@@ -18,7 +18,7 @@ use Rattle.rules_walks.specs.Choose.{choose}
 use Rattle.rules_walks.specs.laws.Choose.{choose-true, choose-false}
 use Rattle.rules_numbers.specs.Clip.{lowest, highest, clip}
 use Rattle.rules_numbers.specs.laws.Nearest.{clip-pos, clip-negsuc}
-use Rattle.rules_numbers.specs.Guard.{eqZ}
+use Rattle.numbers.specs.laws.Tests.{lt-is}
 
 -- ---- magnitudes: `mag` of a result from those of its operands
 neg-mag : (n : ℕ) → mag (negℤ (pos n)) ≤ n
@@ -88,32 +88,7 @@ pub ruleset signs = (needs, at64, minus64, sum64, dif64, mul64)
 pub handed : {r z : ℤ} → mag r < 2147483648 → r ≡ z → toZ w32 (ofZ w32 r) ≡ z
 handed k e = toZ-ofZ (record { sfits = k }) ∙ e
 
--- ---- tests on two `i32`, as the machine makes them
-same-bool : (s t : Bool) → (s ≡ true → t ≡ true) → (t ≡ true → s ≡ true) → s ≡ t
-same-bool true t f g = sym (f refl)
-same-bool false true f g = g refl
-same-bool false false f g = refl
-
-eq-words : (d e : ℤ) → SFits w32 d → SFits w32 e → eqb (ofZ w32 d) (ofZ w32 e) ≡ eqZ d e
-eq-words (pos a) (pos b) f g = refl
-eq-words (pos a) (negsuc b) f g = ne-eqb a (4294967296 - suc b) (λ e. omega arith)
-eq-words (negsuc a) (pos b) f g = ne-eqb (4294967296 - suc a) b (λ e. omega arith)
-eq-words (negsuc a) (negsuc b) f g =
-    same-bool (eqb (4294967296 - suc a) (4294967296 - suc b)) (eqb a b)
-    (λ e. let h = eqb-true (4294967296 - suc a) (4294967296 - suc b) e in eq-eqb a b (omega arith))
-    (λ e. let h = eqb-true a b e in eq-eqb (4294967296 - suc a) (4294967296 - suc b) (omega arith))
-
-module _ {d e : ℤ} (f : SFits w32 d) (g : SFits w32 e) where
-  pub eq-is : eqb (ofZ w32 d) (ofZ w32 e) ≡ eqZ d e
-  eq-is = eq-words d e f g
-
-  pub lt-is : ltZ (toZ w32 (ofZ w32 d)) (toZ w32 (ofZ w32 e)) ≡ ltZ d e
-  lt-is i = ltZ (toZ-ofZ f i) (toZ-ofZ g i)
-
-  pub le-is : leZ (toZ w32 (ofZ w32 d)) (toZ w32 (ofZ w32 e)) ≡ leZ d e
-  le-is i = leZ (toZ-ofZ f i) (toZ-ofZ g i)
-
--- what is picked by such a test
+-- ---- what is picked by a test on two `i32`
 module _ {x y a : ℤ} (f : SFits w32 x) (g : SFits w32 y) (h : SFits w32 a) where
   pub less : (b : ℤ) → ltZ (toZ w32 (ofZ w32 x)) (toZ w32 (ofZ w32 y)) ≡ true → toZ w32 (ofZ w32 a) ≡ choose (ltZ x y) a b
   less b e = toZ-ofZ h ∙ sym (choose-true _ _ _ (sym (lt-is f g) ∙ e))

@@ -4,6 +4,7 @@ pub mod Carry
 pub mod Chart
 pub mod Connected
 pub mod Fire
+pub mod Guard
 pub mod Least
 pub mod Means
 pub mod Next

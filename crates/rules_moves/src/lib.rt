@@ -12,6 +12,15 @@ pub struct Key {
     pub local: usize,
 }
 
+// A transition's guard, the five in the order of document 01. d and e are the variables that it compares; the first has none.
+pub enum Guard {
+    Always,
+    Equals(usize, usize),
+    Differs(usize, usize),
+    Below(usize, usize),
+    AtMost(usize, usize),
+}
+
 pub enum Best {
     At(usize, Key),
     Nothing,

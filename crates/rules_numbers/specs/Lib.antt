@@ -1,6 +1,6 @@
 pub mod Bytes
 pub mod Clip
-pub mod Guard
+pub mod Equal
 pub mod Nearest
 pub mod Operation
 pub mod Word

@@ -1,1 +1,1 @@
-// Definitions and laws only: words and signed values, clipped operations, guards, numbers in bytes.
+// Definitions and laws only: words and signed values, clipped operations, numbers in bytes.

@@ -8,10 +8,10 @@ use Rattle.cases_numbers.proofs.main.Statement.{statement}
 use Rattle.cases_numbers.proofs.main.Tie as tie
 
 abbrev Inv-loop : tie.InvT-loop
-Inv-loop i₀ i = i ≤ 29
+Inv-loop i₀ i = i ≤ 22
 
 abbrev μ-loop : tie.MeasureT-loop
-μ-loop i₀ i = 29 - i
+μ-loop i₀ i = 22 - i
 
 loop-holds : tie.Need-loop-holds Inv-loop μ-loop
 loop-holds c = search needs

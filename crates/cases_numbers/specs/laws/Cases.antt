@@ -6,7 +6,7 @@ use Rattle.rules_walks.specs.Choose.{choose}
 use Rattle.rules_walks.specs.Pick.{both}
 use Rattle.rules_numbers.specs.Clip.{clip, quotient, least, greatest}
 use Rattle.rules_numbers.specs.Operation.{operation}
-use Rattle.rules_numbers.specs.Guard.{eqZ, guarded}
+use Rattle.rules_numbers.specs.Equal.{eqZ}
 use Rattle.cases_numbers.specs.Cases.{answer, Case, cases}
 
 -- each is answered as it should be
@@ -18,5 +18,5 @@ all [] = true
 all (k ∷ ks) = both (right k) (all ks)
 
 pub all-right : all cases ≡ true
-unfolding operation guarded clip quotient least greatest choose
+unfolding operation clip quotient least greatest choose
 all-right = refl

@@ -1,6 +1,6 @@
 -- Computed examples: what no law says of the rules of the moves, so that code and definition cannot change it together.
 use mathlib.Core.Path.{_≡_, refl}
-use mathlib.Core.Bool.{true, false}
+use mathlib.Core.Bool.{Bool, true, false}
 use mathlib.Core.List.{List, [], _∷_, _++_, map}
 use Prim.Native.Nat.{ℕ, _+_}
 use lib.ListN.{getD, replicate}
@@ -11,7 +11,6 @@ use Rattle.rules_walks.specs.First.{firstFrom}
 use Rattle.rules_walks.specs.Walk.{upTo}
 use Rattle.rules_numbers.specs.Bytes.{halfAt, halfBytes, wordBytes}
 use Rattle.rules_numbers.specs.Clip.{clip}
-use Rattle.rules_numbers.specs.Guard.{guarded}
 use Rattle.rules_numbers.specs.Operation.{operation}
 use Rattle.rules_tables.specs.declared.Shape.{Shape}
 use Rattle.rules_tables.specs.Kind.{ofOutput}
@@ -27,6 +26,7 @@ use Rattle.rules_moves.specs.Act.{oneStep, eventOf, endMove}
 use Rattle.rules_moves.specs.Carry.{voice, speaks, carriedBy, carries}
 use Rattle.rules_moves.specs.Chart.{heard, guardHolds, goIdle}
 use Rattle.rules_moves.specs.Fire.{counted, mark, connect, fire}
+use Rattle.rules_moves.specs.Guard.{guardOf, guardAt, holds}
 use Rattle.rules_moves.specs.Least.{beats}
 use Rattle.rules_moves.specs.Next.{moveBy}
 use Rattle.rules_moves.specs.Record.{head, valueOf, values, recordOf, putOut}
@@ -133,16 +133,29 @@ pub sink-takes : at (19 ∷ 20 ∷ 21 ∷ 22 ∷ 23 ∷ []) (sampled sinking (fr
 unfolding sampled sample speaks upTo choose putInput putValue buffer inputAt variableAt inputs associations flagAt fieldAt halfAt
 sink-takes = refl
 
--- ---- "3 d is below e": a transition whose d is variable 1 and whose e is variable 0
-abbrev guarding : List ℕ
-guarding = frame 4 0 0 0 0 0 ++ frame 4 0 0 0 0 0 ++ frame 7 3 0 0 0 1
+-- ---- "Guards: 0 always; 1 to 4: d equals, differs from, is below, is at most e": a transition whose d is variable 1 and whose e is variable 0
+abbrev guarding : ℕ → List ℕ
+guarding n = frame 4 0 0 0 0 0 ++ frame 4 0 0 0 0 0 ++ frame 7 n 0 0 0 1
 
 abbrev holding : ℕ → ℕ → List ℕ
 holding e d = replicate 16 0 ++ (e ∷ 0 ∷ d ∷ 0 ∷ [])
 
-pub guard-order : map (λ (s : List ℕ). guardHolds guarding (frames 0 0 0 2 0 0 0) s 0) (holding 7 3 ∷ holding 3 7 ∷ []) ≡ true ∷ false ∷ []
-unfolding guardHolds guarded value variableAt inputs variables flagAt fieldAt halfAt
-guard-order = refl
+-- with -2147483648 and 2147483647, with -1 twice, with 1 and -1
+abbrev verdicts : ℕ → List Bool
+verdicts n =
+    map (λ (s : List ℕ). guardHolds (guarding n) (frames 0 0 0 2 0 0 0) s 0)
+    (holding 2147483647 2147483648 ∷ holding 4294967295 4294967295 ∷ holding 4294967295 1 ∷ [])
+
+pub guards-hold :
+    map verdicts (0 ∷ 1 ∷ 2 ∷ 3 ∷ 4 ∷ [])
+    ≡ (true ∷ true ∷ true ∷ [])
+    ∷ (false ∷ true ∷ false ∷ [])
+    ∷ (true ∷ false ∷ true ∷ [])
+    ∷ (true ∷ false ∷ false ∷ [])
+    ∷ (true ∷ true ∷ false ∷ [])
+    ∷ []
+unfolding guardHolds guardAt guardOf holds value variableAt inputs variables flagAt fieldAt halfAt
+guards-hold = refl
 
 -- ---- "2 subtract c from b": the result is variable 0, b is variable 1 of value 9, c variable 2 of value 4
 pub step-order : at (16 ∷ []) (oneStep (frame 9 2 0 1 2 0) (frames 0 0 0 3 0 0 0) 0 0 (replicate 18 0 ++ (9 ∷ 0 ∷ 4 ∷ 0 ∷ []))) ≡ 5 ∷ []
