@@ -9,15 +9,13 @@ use lib.Signed.{ltZ, leZ}
 use mir.Syntax.{w32}
 use mir.Val.{SFits, toZ, ofZ}
 use Rattle.rules_numbers.specs.Equal.{eqZ}
-use Rattle.rules_numbers.specs.Word.{signed}
 use Rattle.rules_tables.specs.Frame.{flagAt, fieldAt}
 use Rattle.rules_tables.specs.declared.Shape.{Shape}
 use Rattle.rules_tables.specs.Ids.{transitionFrame}
-use Rattle.rules_store.specs.Word.{value}
 use Rattle.rules_moves.specs.declared.Guard.{Guard}
 use Rattle.rules_moves.specs.declared.Guard.the-variants.{Equals, Differs, Below, AtMost}
 use Rattle.rules_moves.specs.Chart.{guardHolds}
-use Rattle.rules_moves.specs.Guard.{guardOf, guardAt, holds}
+use Rattle.rules_moves.specs.Guard.{guardOf, guardAt, signedValue, holds}
 use Rattle.numbers.specs.laws.Tests.{eq-is, lt-is, le-is}
 use Rattle.moves_chart.specs.Narrow.{Narrow}
 
@@ -45,24 +43,24 @@ pub narrow : {g h : Guard} → g ≡ h → Narrow g → Narrow h
 narrow is n = rw is at n
 
 module _ (T : List ℕ) (S : Shape) (s : List ℕ) {f : ℕ} {g h : Guard} (read : g ≡ guardAt T f) (is : g ≡ h) where
-  pub decides : (j : ℕ) → f ≡ transitionFrame S j → holds (λ v. signed (value S s v)) h ≡ guardHolds T S s j
+  pub decides : (j : ℕ) → f ≡ transitionFrame S j → holds (signedValue S s) h ≡ guardHolds T S s j
   unfolding guardHolds
-  decides j e = ap (holds (λ v. signed (value S s v))) (sym is ∙ read ∙ ap (guardAt T) e)
+  decides j e = ap (holds (signedValue S s)) (sym is ∙ read ∙ ap (guardAt T) e)
 
 -- the comparison of two values x and y as the machine makes it is the one that the guard names
-module _ (S : Shape) (s : List ℕ) (d e : ℕ) {x y : ℤ} (x-fits : SFits w32 x) (y-fits : SFits w32 y) (of-d : x ≡ signed (value S s d)) (of-e : y ≡ signed (value S s e)) where
-  pub equals : eqb (ofZ w32 x) (ofZ w32 y) ≡ holds (λ v. signed (value S s v)) (Equals d e)
+module _ (S : Shape) (s : List ℕ) (d e : ℕ) {x y : ℤ} (x-fits : SFits w32 x) (y-fits : SFits w32 y) (of-d : x ≡ signedValue S s d) (of-e : y ≡ signedValue S s e) where
+  pub equals : eqb (ofZ w32 x) (ofZ w32 y) ≡ holds (signedValue S s) (Equals d e)
   unfolding holds
   equals = eq-is x-fits y-fits ∙ (λ i. eqZ (of-d i) (of-e i))
 
-  pub differs : not (eqb (ofZ w32 x) (ofZ w32 y)) ≡ holds (λ v. signed (value S s v)) (Differs d e)
+  pub differs : not (eqb (ofZ w32 x) (ofZ w32 y)) ≡ holds (signedValue S s) (Differs d e)
   unfolding holds
   differs = ap not equals
 
-  pub below : ltZ (toZ w32 (ofZ w32 x)) (toZ w32 (ofZ w32 y)) ≡ holds (λ v. signed (value S s v)) (Below d e)
+  pub below : ltZ (toZ w32 (ofZ w32 x)) (toZ w32 (ofZ w32 y)) ≡ holds (signedValue S s) (Below d e)
   unfolding holds
   below = lt-is x-fits y-fits ∙ (λ i. ltZ (of-d i) (of-e i))
 
-  pub at-most : leZ (toZ w32 (ofZ w32 x)) (toZ w32 (ofZ w32 y)) ≡ holds (λ v. signed (value S s v)) (AtMost d e)
+  pub at-most : leZ (toZ w32 (ofZ w32 x)) (toZ w32 (ofZ w32 y)) ≡ holds (signedValue S s) (AtMost d e)
   unfolding holds
   at-most = le-is x-fits y-fits ∙ (λ i. leZ (of-d i) (of-e i))

@@ -1,14 +1,12 @@
 // The guards of a transition: which one a frame has, and whether it holds.
 ghost use mathlib.Core.Path.{_≡_};
 ghost use Prim.Native.Nat.{ℕ, _<_};
-ghost use Rattle.rules_numbers.specs.Word.{signed};
 ghost use Rattle.rules_tables.specs.Frame.{framesOf};
 ghost use Rattle.rules_tables.specs.Good.{Good};
 ghost use Rattle.rules_tables.specs.Ids.{transitionFrame};
 ghost use Rattle.store_words.specs.Small.{Small};
-ghost use Rattle.rules_store.specs.Word.{value};
 ghost use Rattle.rules_moves.specs.Chart.{guardHolds};
-ghost use Rattle.rules_moves.specs.Guard.{guardAt};
+ghost use Rattle.rules_moves.specs.Guard.{guardAt, signedValue};
 ghost use Rattle.moves_chart.specs.Narrow.{Narrow};
 use numbers::word::to_signed;
 use rules_moves::Guard;
@@ -40,7 +38,7 @@ fn guard_at(t: &[u8], f: usize) -> Guard
 // The signed value of variable v.
 fn signed_value(store: &[u32], shape: Shape, v: usize) -> i32
     requires { ⌜ Small shape × (v < 65536) ⌝ }
-    ensures { λ r. ⌜ r ≡ signed (value shape (now (store .entry)) v) ⌝ }
+    ensures { λ r. ⌜ r ≡ signedValue shape (now (store .entry)) v ⌝ }
 {
     to_signed(value_of(store, shape, v))
 }

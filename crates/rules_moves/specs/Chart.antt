@@ -5,16 +5,15 @@ use mathlib.Core.Bool.{Bool, not}
 use lib.Dec.{eqb}
 use Rattle.rules_walks.specs.Pick.{both, either}
 use Rattle.rules_walks.specs.First.{Sought, firstBelow}
-use Rattle.rules_numbers.specs.Word.{signed}
 use Rattle.rules_tables.specs.Kind.{none}
 use Rattle.rules_tables.specs.Frame.{fieldAt}
 use Rattle.rules_tables.specs.declared.Shape.{Shape}
 use Rattle.rules_store.specs.declared.Running.{Running}
 use Rattle.rules_tables.specs.Ids.{transitions, transitionFrame}
 use Rattle.rules_store.specs.Running.{rest, entered}
-use Rattle.rules_store.specs.Word.{runningElement, putOwner, putRunning, chartState, putChartState, value}
+use Rattle.rules_store.specs.Word.{runningElement, putOwner, putRunning, chartState, putChartState}
 use Rattle.rules_tables.specs.Actions.{actionNumber}
-use Rattle.rules_moves.specs.Guard.{guardAt, holds}
+use Rattle.rules_moves.specs.Guard.{guardAt, signedValue, holds}
 
 -- "whose event is none, or is the current event while live"; the store has the current event plus 1
 unfoldable pub heard : ℕ → ℕ → ℕ → Bool
@@ -22,7 +21,7 @@ heard c event live = either (eqb c none) (both (not (eqb live 0)) (eqb (c + 1) e
 
 -- "and whose guard holds"
 unfoldable pub guardHolds : List ℕ → Shape → List ℕ → ℕ → Bool
-guardHolds T S s j = holds (λ v. signed (value S s v)) (guardAt T (transitionFrame S j))
+guardHolds T S s j = holds (signedValue S s) (guardAt T (transitionFrame S j))
 
 -- transition j leaves state q, hears the event and its guard holds
 unfoldable pub enabled : List ℕ → Shape → List ℕ → ℕ → ℕ → ℕ → ℕ → Bool

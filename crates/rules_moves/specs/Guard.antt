@@ -6,7 +6,10 @@ use lib.IntN.{ℤ}
 use lib.ListN.{getD}
 use lib.Signed.{ltZ, leZ}
 use Rattle.rules_numbers.specs.Equal.{eqZ}
+use Rattle.rules_numbers.specs.Word.{signed}
 use Rattle.rules_tables.specs.Frame.{flagAt, fieldAt}
+use Rattle.rules_tables.specs.declared.Shape.{Shape}
+use Rattle.rules_store.specs.Word.{value}
 use Rattle.rules_moves.specs.declared.Guard.{Guard}
 use Rattle.rules_moves.specs.declared.Guard.the-variants.{Always, Equals, Differs, Below, AtMost}
 
@@ -28,7 +31,11 @@ guardOf n d e = getD (guards d e) n (AtMost d e)
 unfoldable pub guardAt : List ℕ → ℕ → Guard
 guardAt T f = guardOf (flagAt T f) (fieldAt T f 3) (fieldAt T f 4)
 
--- whether it holds, by what is read of its variables; Always reads none
+-- what is read of variable v: its value in the store, signed
+abbrev pub signedValue : Shape → List ℕ → ℕ → ℤ
+signedValue S s v = signed (value S s v)
+
+-- whether a guard holds, by what is read of its variables; Always reads none
 unfoldable pub holds : (ℕ → ℤ) → Guard → Bool
 holds read Always = true
 holds read (Equals d e) = eqZ (read d) (read e)

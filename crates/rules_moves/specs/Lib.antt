@@ -13,6 +13,7 @@ pub mod Partner
 pub mod Reached
 pub mod Ready
 pub mod Record
+pub mod Says
 pub mod Take
 pub mod Untouched
 pub mod laws

@@ -1,6 +1,7 @@
 pub mod Carry
 pub mod Examples
 pub mod Firing
+pub mod Guard
 pub mod Least
 pub mod Leastness
 pub mod Moving

@@ -1,4 +1,5 @@
 pub mod Bytes
+pub mod Equal
 pub mod Examples
 pub mod Nearest
 pub mod Operation
