@@ -2,7 +2,8 @@
  * A host for a stairwell light: a push button switches the lamps of three floors on, and they go off so many ticks after the last push.
  *
  * It does what every host does: check the table and lend a store (main), let events arrive and time pass (main), run in slices, so that a
- * controller gets to its other work between them (settle), and read the records that the network's sinks write (print_records).
+ * controller gets to its other work between them (settle), read the records that the network's sinks write (print_records), and look whether
+ * results were clipped (settle, main).
  *
  *     cc -std=c99 -Iinclude examples/host.c target/staticlib/libxaluudhiga.a -o host
  */
@@ -16,7 +17,7 @@
 #define HALF(n) (uint8_t)((n) >> 8), (uint8_t)((n) & 0xFF)
 #define FRAME(kind, flag, a, b, c, d, e) kind, flag, HALF(a), HALF(b), HALF(c), HALF(d), HALF(e)
 
-enum { PUSH = 0 }; /* the event output by which a push arrives */
+enum { PUSH = 0, BURNT = 9 }; /* the event output by which a push arrives, and a variable that this host reads */
 
 static const uint8_t table[] = {
     FRAME(XAL_KIND_ELEMENT, XAL_SORT_SOURCE, 0, 0, 0, 0, 0),          /* element 0: the button */
@@ -43,6 +44,9 @@ static const uint8_t table[] = {
     FRAME(XAL_KIND_VARIABLE, XAL_ROLE_INPUT, 3, 0, 0, 0, 0),          /* variables 5, 6 and 7: LIT of the lamps */
     FRAME(XAL_KIND_VARIABLE, XAL_ROLE_INPUT, 4, 0, 0, 0, 0),
     FRAME(XAL_KIND_VARIABLE, XAL_ROLE_INPUT, 5, 0, 0, 0, 0),
+    FRAME(XAL_KIND_VARIABLE, XAL_ROLE_INPUT, 1, 0, 0, 0, 0),          /* variable 8: ASKED of the control */
+    FRAME(XAL_KIND_VARIABLE, XAL_ROLE_INTERNAL, 1, 0x7FFF, 0xFEA4, 0, 0), /* variable 9: BURNT, ticks of light so far, starts as 2147483300 */
+    FRAME(XAL_KIND_ASSOCIATION, XAL_WITH_INPUT, 0, 8, 0, 0, 0),       /* PUSHED samples ASKED */
     FRAME(XAL_KIND_ASSOCIATION, XAL_WITH_INPUT, 2, 4, 0, 0, 0),       /* START samples DT */
     FRAME(XAL_KIND_ASSOCIATION, XAL_WITH_INPUT, 4, 5, 0, 0, 0),       /* each SET samples its LIT */
     FRAME(XAL_KIND_ASSOCIATION, XAL_WITH_INPUT, 5, 6, 0, 0, 0),
@@ -54,28 +58,30 @@ static const uint8_t table[] = {
     FRAME(XAL_KIND_TRANSITION, XAL_GUARD_ALWAYS, 0, 1, 0, 0, 0),      /* dark to lit on PUSHED */
     FRAME(XAL_KIND_TRANSITION, XAL_GUARD_ALWAYS, 1, 0, 1, 0, 0),      /* lit to dark on ELAPSED */
     FRAME(XAL_KIND_ACTION, 0, 0, 0, 1, 1, 0),                         /* dark: step 0, then SWITCHED */
-    FRAME(XAL_KIND_ACTION, 0, 1, 1, 1, 1, 0),                         /* lit: step 1, then SWITCHED */
+    FRAME(XAL_KIND_ACTION, 0, 1, 1, 2, 1, 0),                         /* lit: steps 1 and 2, then SWITCHED */
     FRAME(XAL_KIND_STEP, XAL_OP_COPY, 1, 2, 0, 0, 0),                 /* step 0: LIT = OFF */
     FRAME(XAL_KIND_STEP, XAL_OP_COPY, 1, 3, 0, 0, 0),                 /* step 1: LIT = ON */
+    FRAME(XAL_KIND_STEP, XAL_OP_ADD, 9, 9, 8, 0, 0),                  /* step 2: BURNT = BURNT + ASKED */
     FRAME(XAL_KIND_EVENT_CONNECTION, 0, 0, 0, 0, 0, 0),               /* PUSH to PUSHED */
     FRAME(XAL_KIND_EVENT_CONNECTION, 0, 0, 2, 0, 0, 0),               /* PUSH to START: each push starts the timer anew */
     FRAME(XAL_KIND_EVENT_CONNECTION, 0, 1, 4, 0, 0, 0),               /* SWITCHED to each SET */
     FRAME(XAL_KIND_EVENT_CONNECTION, 0, 1, 5, 0, 0, 0),
     FRAME(XAL_KIND_EVENT_CONNECTION, 0, 1, 6, 0, 0, 0),
     FRAME(XAL_KIND_EVENT_CONNECTION, 0, 2, 1, 0, 0, 0),               /* the timer's ELAPSED to the control's */
-    FRAME(XAL_KIND_DATA_CONNECTION, 0, 0, 4, 0, 0, 0),                /* TIME to DT */
+    FRAME(XAL_KIND_DATA_CONNECTION, 0, 0, 4, 0, 0, 0),                /* TIME to DT and to ASKED */
+    FRAME(XAL_KIND_DATA_CONNECTION, 0, 0, 8, 0, 0, 0),
     FRAME(XAL_KIND_DATA_CONNECTION, 0, 1, 5, 0, 0, 0),                /* the control's LIT to each lamp's */
     FRAME(XAL_KIND_DATA_CONNECTION, 0, 1, 6, 0, 0, 0),
     FRAME(XAL_KIND_DATA_CONNECTION, 0, 1, 7, 0, 0, 0),
 };
 
 /* A host that knows its table lends exactly its need; one that takes any table lends XAL_MAX_NEED words. */
-enum { ELEMENTS = 6, EVENT_INPUTS = 7, VARIABLES = 8, STORE_WORDS = XAL_NEED(ELEMENTS, EVENT_INPUTS, VARIABLES) };
+enum { ELEMENTS = 6, EVENT_INPUTS = 7, VARIABLES = 10, STORE_WORDS = XAL_NEED(ELEMENTS, EVENT_INPUTS, VARIABLES) };
 static uint32_t store[STORE_WORDS];
 
 /* This host reads words of the store (next_due, settle), so it says for which layout it was written. */
-#if XAL_STORE_LAYOUT != 1
-#error "this host reads the store by layout 1"
+#if XAL_STORE_LAYOUT != 2
+#error "this host reads the store by layout 2"
 #endif
 
 /* What a table and a store are in each call. */
@@ -141,11 +147,12 @@ static void print_records(const uint8_t *record, size_t bytes) {
 static void settle(void) {
     enum { SLICE = 20 };
     uint8_t output[XAL_MAX_RECORD_BYTES];
-    uint32_t moves, stop;
+    uint32_t moves, stop, untrue;
     size_t bytes;
     do {
-        judge("run", xal_run(NETWORK, SLICE, output, sizeof output, &moves, &stop, &bytes));
-        printf("%4u  %u moves, stopped with %u\n", (unsigned)store[XAL_WORD_NOW], (unsigned)moves, (unsigned)stop);
+        judge("run", xal_run(NETWORK, SLICE, output, sizeof output, &moves, &stop, &bytes, &untrue));
+        printf("%4u  %u moves, %u of them untrue, stopped with %u\n", (unsigned)store[XAL_WORD_NOW], (unsigned)moves, (unsigned)untrue,
+               (unsigned)stop);
         print_records(output, bytes);
         /* A controller does its other work here. */
     } while (stop == XAL_STOP_BUDGET || stop == XAL_STOP_ROOM);
@@ -197,6 +204,10 @@ int main(void) {
         }
         settle();
     }
+
+    /* A value that is stuck at the end of its range shows here: BURNT could not hold the ticks of the last push. */
+    printf("untrue steps since load: %u, BURNT is %d\n", (unsigned)store[XAL_WORD_UNTRUE],
+           (int)store[XAL_VARIABLE_AT(ELEMENTS, EVENT_INPUTS, BURNT) + XAL_VARIABLE_VALUE]);
 
     /* What cannot be done is refused, and leaves the store as it is: time does not run backwards. */
     printf("advance to 0: refused %u at now %u\n", xal_number(xal_advance(NETWORK, 0)), (unsigned)store[XAL_WORD_NOW]);

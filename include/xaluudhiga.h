@@ -141,14 +141,14 @@ static inline unsigned xal_frame(uint64_t answer) {
  *
  * XAL_STORE_LAYOUT is the number of this layout. It rises with each version in which a word moves or takes another meaning. So
  *   - a host that reads words says which layout it was written for, and does not compile with another:
- *         #if XAL_STORE_LAYOUT != 1
- *         #error "this host reads the store by layout 1"
+ *         #if XAL_STORE_LAYOUT != 2
+ *         #error "this host reads the store by layout 2"
  *         #endif
  *   - a host that keeps stores longer than it runs, or sends them, writes the number beside each and loads anew where it is another;
  *   - header and library are of one version. A host that is linked with a library of another mostly sees it at its start, by
  *     xal_need(table) != XAL_NEED(its numbers of frames).
  */
-#define XAL_STORE_LAYOUT 1
+#define XAL_STORE_LAYOUT 2
 
 enum {
     XAL_WORD_NOW = 0,
@@ -160,7 +160,8 @@ enum {
     XAL_WORD_ACTION = 6,          /* of the present state, from 1; 0 for none */
     XAL_WORD_STEP = 7,
     XAL_WORD_OVERWRITTEN = 8,     /* events that came to an input that waited already; stops at 4,294,967,295 */
-    XAL_STORE_HEAD = 16,          /* words before those of the elements; from 9 on they are zero */
+    XAL_WORD_UNTRUE = 11,         /* steps since load whose result was not the true one (see below); stops at 4,294,967,295 */
+    XAL_STORE_HEAD = 16,          /* words before those of the elements; 9, 10 and 12 to 15 are zero */
     XAL_ELEMENT_WORDS = 3,
     XAL_ELEMENT_STATE = 0,        /* chart state of a basic element, else 0 */
     XAL_ELEMENT_DUE_FLAG = 1,     /* 1 on a delay that is running, else 0 */
@@ -213,6 +214,14 @@ enum {
     XAL_STOP_ROOM = 3,   /* the next move's record has no room in the output buffer; the move was not made */
     XAL_STOP_TRACE = 4   /* traced runs only: the next move's frames have no room in the trace room; the move was not made */
 };
+
+/* ---- Untrue steps
+ *
+ * A step is untrue where its result is not what the operation gives in whole numbers: the result lay outside the signed range and became
+ * the nearest end, or the divisor was 0 and the result is 0 (also of 0 by 0). A result that lies exactly at an end is true, and so is a
+ * quotient that was rounded toward zero. Each run tells how many untrue steps it made; XAL_WORD_UNTRUE has those of all runs since load, up
+ * to its end. A value that stands at the end of its range while the count rises is stuck there.
+ */
 
 /* ---- Traces
  *
@@ -272,22 +281,23 @@ uint64_t xal_arrival(const uint8_t *table, size_t table_bytes, uint32_t *store, 
 
 /*
  * Makes moves until no move exists, else the next move's record has no room in the output buffer, else the budget is used, and tells the
- * moves made, why it stopped (XAL_STOP_..) and the bytes written: whole records, from the buffer's start. Refuses by 1 to 6.
- * The rest of the buffer stays as it is. A refused call leaves store and buffer as they came and tells 0, 0 and 0.
+ * moves made, why it stopped (XAL_STOP_..), the bytes written (whole records, from the buffer's start) and how many of the moves were untrue
+ * steps. Refuses by 1 to 6.
+ * The rest of the buffer stays as it is. A refused call leaves store and buffer as they came and tells 0 four times.
  */
 uint64_t xal_run(const uint8_t *table, size_t table_bytes, uint32_t *store, size_t store_words, uint32_t budget, uint8_t *output,
-                 size_t output_bytes, uint32_t *moves, uint32_t *stop, size_t *bytes);
+                 size_t output_bytes, uint32_t *moves, uint32_t *stop, size_t *bytes, uint32_t *untrue);
 
 /*
  * The same run with a trace beside it: it does what xal_run does, and writes the frames of each move it makes to the trace room, from the
  * room's start. A move is traced whole or not made, so that the run may also stop because the next move's frames have no room; that is
  * looked at after the record's room and before the budget. Tells besides the bytes of the trace. Refuses by 1 to 6.
- * The rest of both rooms stays as it is. A refused call leaves store, output buffer and trace room as they came and tells 0 four times.
+ * The rest of both rooms stays as it is. A refused call leaves store, output buffer and trace room as they came and tells 0 five times.
  * Traces of runs that follow each other may be joined where no other call came between.
  */
 uint64_t xal_run_traced(const uint8_t *table, size_t table_bytes, uint32_t *store, size_t store_words, uint32_t budget, uint8_t *output,
                         size_t output_bytes, uint8_t *trace, size_t trace_bytes, uint32_t *moves, uint32_t *stop, size_t *bytes,
-                        size_t *traced);
+                        size_t *traced, uint32_t *untrue);
 
 /*
  * Shows a store as it was after some frames of a trace. The store is that from which the traced run started, and becomes the one shown:

@@ -36,7 +36,8 @@ static void stop(const char *when, const char *what) {
 
 // The calls that are measured. Each has the same effect on its side.
 static void run_ours(uint32_t budget, size_t room) {
-    ours.answer = xal_run(table, 12 * frames, ours.store, WORDS, budget, ours.output, room, &ours.told.moves, &ours.told.stop, &ours.told.bytes);
+    ours.answer = xal_run(table, 12 * frames, ours.store, WORDS, budget, ours.output, room, &ours.told.moves, &ours.told.stop,
+                          &ours.told.bytes, &ours.told.untrue);
 }
 static void run_decoded(uint32_t budget, size_t room) {
     theirs.answer = 0;
@@ -67,6 +68,7 @@ static void same(const char *when) {
     if (ours.answer != theirs.answer) stop(when, "not the same answer");
     if (ours.told.moves != theirs.told.moves || ours.told.stop != theirs.told.stop || ours.told.bytes != theirs.told.bytes)
         stop(when, "not the same moves, stop or bytes");
+    if (ours.told.untrue != theirs.told.untrue) stop(when, "not the same untrue steps");
     if (memcmp(ours.store, theirs.store, sizeof ours.store) != 0) stop(when, "not the same store");
     if (memcmp(ours.output, theirs.output, sizeof ours.output) != 0) stop(when, "not the same output");
 }

@@ -20,7 +20,7 @@ static byte output[400000], beside[400000], trace[12 * 300000];
 static int run_both(int values, uint32_t budget) {
     static const int32_t given[VALUES] = {21, 2, 3, 4};
     const size_t length = 12 * frames;
-    uint32_t moves, stop, traced_moves, traced_stop;
+    uint32_t moves, stop, untrue, traced_moves, traced_stop, traced_untrue;
     size_t bytes, traced_bytes, traced;
     EACH(twice, 2) {
         uint32_t *into = twice ? other : store;
@@ -28,10 +28,10 @@ static int run_both(int values, uint32_t budget) {
             xal_arrival(table, length, into, WORDS, 0, 5, given, values))
             return 1;
     }
-    xal_run(table, length, store, WORDS, budget, output, sizeof output, &moves, &stop, &bytes);
+    xal_run(table, length, store, WORDS, budget, output, sizeof output, &moves, &stop, &bytes, &untrue);
     xal_run_traced(table, length, other, WORDS, budget, beside, sizeof beside, trace, sizeof trace, &traced_moves, &traced_stop,
-                   &traced_bytes, &traced);
-    if (moves != budget || traced_moves != moves || traced_stop != stop || traced_bytes != bytes)
+                   &traced_bytes, &traced, &traced_untrue);
+    if (moves != budget || traced_moves != moves || traced_stop != stop || traced_bytes != bytes || traced_untrue != untrue)
         return 1;
     printf("%d|%u|%lu\n", frames, (unsigned)moves, (unsigned long)traced / 12);
     return memcmp(store, other, sizeof store) != 0 || memcmp(output, beside, sizeof output) != 0;

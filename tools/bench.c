@@ -123,14 +123,15 @@ static int values; // of the source's event
 
 static word checked(void) { return xal_check(table, 12 * frames); }
 static word ran(void) {
-    uint32_t moves, stop;
+    uint32_t moves, stop, untrue;
     size_t bytes;
-    return xal_run(table, 12 * frames, words, 8192, 200, output, sizeof output, &moves, &stop, &bytes);
+    return xal_run(table, 12 * frames, words, 8192, 200, output, sizeof output, &moves, &stop, &bytes, &untrue);
 }
 static word ran_traced(void) {
-    uint32_t moves, stop;
+    uint32_t moves, stop, untrue;
     size_t bytes, traced;
-    return xal_run_traced(table, 12 * frames, words, 8192, 200, output, sizeof output, told, sizeof told, &moves, &stop, &bytes, &traced);
+    return xal_run_traced(table, 12 * frames, words, 8192, 200, output, sizeof output, told, sizeof told, &moves, &stop, &bytes, &traced,
+                          &untrue);
 }
 static word advanced(void) { return xal_advance(table, 12 * frames, words, 8192, 10); }
 static word arrived(void) {

@@ -427,7 +427,7 @@ void hand_decode(const uint8_t *table, size_t table_bytes, struct hand_machine *
 
 // ---- the store, in the words of document 01
 
-enum { NOW, RUNNING, CURRENT, BIRTH, MODE, LIVE, ACTION_NUMBER, STEP_NUMBER, OVERWRITTEN, SPARE, HEAD = 16 };
+enum { NOW, RUNNING, CURRENT, BIRTH, MODE, LIVE, ACTION_NUMBER, STEP_NUMBER, OVERWRITTEN, SPARE, UNTRUE = 11, HEAD = 16 };
 enum { IDLE, CHARTS, ACTS };
 
 static int running_ok(const struct hand_machine *m, const uint32_t *store) {
@@ -452,7 +452,7 @@ unsigned hand_store_check(const struct hand_machine *m, const uint32_t *store, s
     if (store_words < HEAD + 3 * m->elements + 3 * m->inputs + 2 * m->variables) return 5;
     if (store[NOW] > 2147483647u) return 6;
     for (int i = SPARE; i < HEAD; i++)
-        if (store[i] != 0) return 6;
+        if (i != UNTRUE && store[i] != 0) return 6;
     w = store + HEAD;
     for (unsigned i = 0; i < m->elements; i++, w += 3) {
         if (m->sort[i] == BASIC ? w[0] >= m->states || m->state[w[0]].element != i : w[0] != 0) return 6;
@@ -477,6 +477,7 @@ struct run {
     uint32_t now, running, current, birth, mode, live, action, step, overwritten;
     uint32_t *elements, *inputs, *values; // three, three and two words each
     uint8_t *output;                      // where the next record goes
+    uint32_t untrue;                      // steps of this run
 };
 
 static void fire(struct run *r, unsigned event, uint32_t birth) {
@@ -511,19 +512,30 @@ static int least(const struct run *r) {
     return found;
 }
 
-static int32_t clipped(int64_t x) { return x < -2147483648LL ? -2147483647 - 1 : x > 2147483647LL ? 2147483647 : (int32_t)x; }
+// A result, and whether it is the true one.
+struct outcome {
+    int32_t result;
+    int is_true;
+};
 
-static int32_t operate(unsigned operation, int32_t b, int32_t c, uint32_t age) {
+static struct outcome exact(int32_t x) { return (struct outcome){x, 1}; }
+static struct outcome untrue(int32_t x) { return (struct outcome){x, 0}; }
+
+static struct outcome clipped(int64_t x) {
+    return x < -2147483648LL ? untrue(-2147483647 - 1) : x > 2147483647LL ? untrue(2147483647) : exact((int32_t)x);
+}
+
+static struct outcome operate(unsigned operation, int32_t b, int32_t c, uint32_t age) {
     switch (operation) {
-    case COPY: return b;
+    case COPY: return exact(b);
     case ADD: return clipped((int64_t)b + c);
     case SUBTRACT: return clipped((int64_t)b - c);
     case NEGATE: return clipped(-(int64_t)b);
     case MULTIPLY: return clipped((int64_t)b * c);
-    case DIVIDE: return c == 0 ? 0 : clipped((int64_t)b / c);
-    case MINIMUM: return b < c ? b : c;
-    case MAXIMUM: return b < c ? c : b;
-    default: return (int32_t)age;
+    case DIVIDE: return c == 0 ? untrue(0) : clipped((int64_t)b / c);
+    case MINIMUM: return exact(b < c ? b : c);
+    case MAXIMUM: return exact(b < c ? c : b);
+    default: return exact((int32_t)age);
     }
 }
 
@@ -622,7 +634,9 @@ static void act(struct run *r) {
     if (r->step < action->steps) {
         const struct hand_step *s = &m->step[action->first + r->step++];
         const int32_t b = (int32_t)r->values[2 * s->b], c = (int32_t)r->values[2 * s->c];
-        r->values[2 * s->result] = (uint32_t)operate(s->operation, b, c, r->now - r->birth);
+        const struct outcome told = operate(s->operation, b, c, r->now - r->birth);
+        r->values[2 * s->result] = (uint32_t)told.result;
+        if (!told.is_true) r->untrue++;
     } else {
         if (action->event != NONE) fire(r, action->event, r->birth);
         r->action = r->action < state->actions ? r->action + 1 : 0;
@@ -637,7 +651,7 @@ static size_t record_bytes(const struct hand_machine *m, int taken) {
 }
 
 struct hand_told hand_run(const struct hand_machine *m, uint32_t *store, uint32_t budget, uint8_t *output, size_t output_bytes) {
-    struct hand_told told = {0, 0, 0};
+    struct hand_told told = {0, 0, 0, 0};
     struct run r;
     r.m = m;
     r.now = store[NOW];
@@ -647,6 +661,7 @@ struct hand_told hand_run(const struct hand_machine *m, uint32_t *store, uint32_
     r.inputs = r.elements + 3 * m->elements;
     r.values = r.inputs + 3 * m->inputs;
     r.output = output;
+    r.untrue = 0;
 
     while (told.stop == 0) {
         const int next = r.mode == IDLE ? least(&r) : 0;
@@ -667,13 +682,15 @@ struct hand_told hand_run(const struct hand_machine *m, uint32_t *store, uint32_
 
     store[RUNNING] = r.running, store[CURRENT] = r.current, store[BIRTH] = r.birth, store[MODE] = r.mode, store[LIVE] = r.live;
     store[ACTION_NUMBER] = r.action, store[STEP_NUMBER] = r.step, store[OVERWRITTEN] = r.overwritten;
+    store[UNTRUE] = r.untrue < 4294967295u - store[UNTRUE] ? store[UNTRUE] + r.untrue : 4294967295u;
     told.bytes = (size_t)(r.output - output);
+    told.untrue = r.untrue;
     return told;
 }
 
 uint64_t hand_run_judging(const uint8_t *table, size_t table_bytes, uint32_t *store, size_t store_words, uint32_t budget, uint8_t *output,
                           size_t output_bytes, struct hand_told *told) {
-    static const struct hand_told nothing = {0, 0, 0};
+    static const struct hand_told nothing = {0, 0, 0, 0};
     static struct hand_machine machine;
     unsigned frame, number = hand_check(table, table_bytes, &frame);
     *told = nothing;

@@ -47,6 +47,7 @@ struct hand_machine {
 struct hand_told {
     uint32_t moves, stop;
     size_t bytes;
+    uint32_t untrue;
 };
 
 /* The refusal number of a table, 0 to 4, and its frame. */

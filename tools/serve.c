@@ -3,9 +3,9 @@
  *
  * A request is eight numbers of 8 bytes, low byte first (call, table bytes, store words, values, output bytes, trace bytes, number, time),
  * and then the table, the store, the values, the output buffer and the trace room, which for a reading holds the text. The number is an
- * arrival's event, a view's kind or action, or how many frames a reading is to show; the time is also a run's budget. The reply is eight
- * numbers (answer, moves, stop number, bytes or start, trace bytes, frames shown, line, whether the bytes around what was lent are as they
- * were), those that the call does not tell 0, and then all five as the call left them. It ends at the end of its input.
+ * arrival's event, a view's kind or action, or how many frames a reading is to show; the time is also a run's budget. The reply is nine
+ * numbers (answer, moves, stop number, bytes or start, trace bytes, frames shown, line, untrue steps, whether the bytes around what was
+ * lent are as they were), those that the call does not tell 0, and then all five as the call left them. It ends at the end of its input.
  */
 #include <stdint.h>
 #include <stdio.h>
@@ -59,16 +59,17 @@ struct request {
 };
 
 struct reply {
-    uint64_t answer, moves, stop, bytes, traced, shown, line, guarded;
+    uint64_t answer, moves, stop, bytes, traced, shown, line, untrue, guarded;
 };
 
 /* What a call tells by pointers. Each word is one that no call tells, so that one that is not told shows. */
 struct told {
     uint32_t moves, stop;
     size_t bytes, traced, shown, line;
+    uint32_t untrue;
 };
 
-static const struct told untold = {0xDEADDEAD, 0xDEADDEAD, 0xDEADDEAD, 0xDEADDEAD, 0xDEADDEAD, 0xDEADDEAD};
+static const struct told untold = {0xDEADDEAD, 0xDEADDEAD, 0xDEADDEAD, 0xDEADDEAD, 0xDEADDEAD, 0xDEADDEAD, 0xDEADDEAD};
 
 static uint64_t call(const struct request *r, struct told *told) {
     const uint8_t *t = lent(&table);
@@ -80,12 +81,13 @@ static uint64_t call(const struct request *r, struct told *told) {
     case LOAD: return xal_load(t, n, s, words);
     case ADVANCE: return xal_advance(t, n, s, words, time);
     case ARRIVAL: return xal_arrival(t, n, s, words, r->number, time, lent(&values), r->value_count);
-    case RUN: return xal_run(t, n, s, words, time, lent(&output), output.bytes, &told->moves, &told->stop, &told->bytes);
+    case RUN:
+        return xal_run(t, n, s, words, time, lent(&output), output.bytes, &told->moves, &told->stop, &told->bytes, &told->untrue);
     case FRAMES_OF: return xal_frames_of(t, n, r->number, &told->bytes);
     case STEPS_OF: return xal_steps_of(t, n, r->number, &told->bytes);
     case RUN_TRACED:
         return xal_run_traced(t, n, s, words, time, lent(&output), output.bytes, lent(&trace), trace.bytes, &told->moves, &told->stop,
-                              &told->bytes, &told->traced);
+                              &told->bytes, &told->traced, &told->untrue);
     case SHOW: return xal_show(t, n, s, words, lent(&trace), trace.bytes, r->number, &told->shown, &told->line);
     }
     return 0;
@@ -93,11 +95,12 @@ static uint64_t call(const struct request *r, struct told *told) {
 
 static struct reply make(const struct request *r) {
     struct told told = untold;
-    struct reply reply = {call(r, &told), 0, 0, 0, 0, 0, 0, 0};
+    struct reply reply = {call(r, &told), 0, 0, 0, 0, 0, 0, 0, 0};
     int traced = r->call == RUN_TRACED, run = traced || r->call == RUN;
     if (run) {
         reply.moves = told.moves;
         reply.stop = told.stop;
+        reply.untrue = told.untrue;
     }
     if (run || r->call == FRAMES_OF || r->call == STEPS_OF)
         reply.bytes = told.bytes;

@@ -18,6 +18,11 @@ pub struct Answer {
     pub bytes: usize,
     /// The bytes of the trace; 0 for a run that is not traced.
     pub traced: usize,
+    /// The untrue steps: "The answer of run tells how many it made."
+    ///
+    /// Open point: what it tells where the count in the store has stopped. All
+    /// that this run made, since that is what was asked for.
+    pub untrue: u32,
 }
 
 /// Why a run ended.
@@ -93,8 +98,15 @@ impl Checked {
         watch: &'m mut W,
     ) -> Result<Machine<'m, W>, Refusal> {
         let model = self.model_for(store)?;
-        let state = store::read(model, store).ok_or(Refusal::plain(6))?;
-        Ok(Machine { model, state, watch })
+        match store::read(model, store) {
+            Some(state) => Ok(Machine { model, state, watch }),
+            None => {
+                if let Some(place) = store::lone_fault(model, store) {
+                    watch.see(Sight::NotZero(place));
+                }
+                Err(Refusal::plain(6))
+            }
+        }
     }
 
     /// One call: the store is written only if the call is not refused.
@@ -164,7 +176,7 @@ impl Checked {
         out: &mut [u8],
         watch: &mut impl Watch,
     ) -> Answer {
-        self.call(store, watch, |machine| Ok(make_moves(machine, budget, out, None)))
+        self.call(store, watch, |machine| Ok(watched_run(machine, budget, out, None)))
     }
 
     /// The same run with a trace beside it: "Trace room is checked before each
@@ -180,7 +192,7 @@ impl Checked {
         trace: &mut Trace,
         watch: &mut impl Watch,
     ) -> Answer {
-        self.call(store, watch, |machine| Ok(make_moves(machine, budget, out, Some(trace))))
+        self.call(store, watch, |machine| Ok(watched_run(machine, budget, out, Some(trace))))
     }
 }
 
@@ -273,6 +285,20 @@ impl Held {
     }
 }
 
+/// A run, of which the watcher learns what it did to the count.
+fn watched_run<W: Watch>(
+    machine: &mut Machine<W>,
+    budget: u32,
+    out: &mut [u8],
+    trace: Option<&mut Trace>,
+) -> Answer {
+    let (traced, before) = (trace.is_some(), machine.state.untrue);
+    let told = make_moves(machine, budget, out, trace);
+    let (untrue, after) = (told.untrue, machine.state.untrue);
+    machine.watch.see(Sight::Counted { traced, untrue, before, after });
+    told
+}
+
 /// The moves of a run, and what it tells.
 fn make_moves<W: Watch>(
     machine: &mut Machine<W>,
@@ -299,12 +325,13 @@ fn make_moves<W: Watch>(
             told.stop = stop;
             return told;
         }
-        machine.make(next, room);
+        let untrue = machine.make(next, room);
         if let Some(trace) = &mut trace {
             trace.put(&frames, machine.watch);
             told.traced = trace.bytes.len();
         }
         told.moves += 1;
+        told.untrue += u32::from(untrue);
         told.bytes += record;
     }
 }

@@ -1,10 +1,13 @@
 //! What sessions reached when running, and which numbers they missed; and the
-//! same of traces and their reading.
+//! same of traces and their reading, of the results of steps, and of the words
+//! of a store that calls bring along.
 
+use crate::arithmetic::Outcome;
 use crate::calls::{stop, Held};
 use crate::model::ElementKind;
 use crate::reader::{Ending, Fault};
-use crate::table::kind;
+use crate::store::word;
+use crate::table::{kind, operation};
 use crate::trace::trace_kind;
 use crate::watch::{Sight, Watch};
 use std::fmt::{self, Display, Formatter};
@@ -43,7 +46,7 @@ impl Watch for Coverage {
     fn see(&mut self, sight: Sight) {
         match sight {
             Sight::Element(kind) => self.element_kinds[place_of(kind)] += 1,
-            Sight::Operation(number) => self.operations[usize::from(number)] += 1,
+            Sight::Step { operation, .. } => self.operations[usize::from(operation)] += 1,
             Sight::Guard(number) => self.guards[usize::from(number)] += 1,
             Sight::Overwritten => self.overwritten += 1,
             Sight::Chained => self.chained += 1,
@@ -59,6 +62,7 @@ impl Watch for Coverage {
             Sight::Refused { number, kind } => self.see_refusal(number, kind),
             // No answer of the step program tells any of these.
             Sight::Traced(_) | Sight::Held(_) | Sight::Read(_) => {}
+            Sight::Counted { .. } | Sight::NotZero(_) => {}
         }
     }
 }
@@ -85,10 +89,7 @@ impl Coverage {
 
     /// The numbers that sessions can reach and these did not.
     pub fn missed(&self) -> Vec<String> {
-        self.cells()
-            .filter(|cell| cell.reachable && cell.count == 0)
-            .map(|cell| format!("{} {}", cell.row, cell.label))
-            .collect()
+        missed(self.cells())
     }
 
     /// The numbers that these sessions reached.
@@ -192,6 +193,12 @@ impl Cell {
     }
 }
 
+/// What can be reached and was not.
+fn missed(cells: impl Iterator<Item = Cell>) -> Vec<String> {
+    let absent = cells.filter(|cell| cell.reachable && cell.count == 0);
+    absent.map(|cell| format!("{} {}", cell.row, cell.label)).collect()
+}
+
 impl Display for Coverage {
     fn fmt(&self, f: &mut Formatter<'_>) -> fmt::Result {
         write!(f, "sessions {}", self.sessions)?;
@@ -265,8 +272,7 @@ fn count_in<T: PartialEq>(counts: &mut [u64], list: &[T], thing: T) {
 impl TraceCoverage {
     /// What traces and readings can reach and these did not.
     pub fn missed(&self) -> Vec<String> {
-        let absent = self.cells().filter(|cell| cell.count == 0);
-        absent.map(|cell| format!("{} {}", cell.row, cell.label)).collect()
+        missed(self.cells())
     }
 
     fn cells(&self) -> impl Iterator<Item = Cell> + '_ {
@@ -286,5 +292,177 @@ impl Display for TraceCoverage {
     fn fmt(&self, f: &mut Formatter<'_>) -> fmt::Result {
         write!(f, "traces")?;
         write_cells(f, self.cells())
+    }
+}
+
+// ---------------------------------------------------------------- untrue steps
+
+/// The results of steps, untrue ones and true ones at an end of the range.
+#[derive(Clone, Default, Debug)]
+pub struct ResultCoverage {
+    /// In the order of [`AT_END`], by operation number.
+    pub at_end: [[u64; 9]; AT_END.len()],
+    /// In the order of [`BY_ZERO`].
+    pub by_zero: [u64; BY_ZERO.len()],
+}
+
+/// Results at an end of the range, with the operations that can give them.
+const AT_END: [(&str, &[u8]); 4] = {
+    use operation::{ADD, AGE, COPY, DIVIDE, MAXIMUM, MINIMUM, MULTIPLY, NEGATE, SUBTRACT};
+    [
+        ("clipped to lower end", &[ADD, SUBTRACT, MULTIPLY]),
+        ("clipped to upper end", &[ADD, SUBTRACT, NEGATE, MULTIPLY, DIVIDE]),
+        ("true at lower end", &[COPY, ADD, SUBTRACT, MULTIPLY, DIVIDE, MINIMUM, MAXIMUM]),
+        (
+            "true at upper end",
+            &[COPY, ADD, SUBTRACT, NEGATE, MULTIPLY, DIVIDE, MINIMUM, MAXIMUM, AGE],
+        ),
+    ]
+};
+
+const BY_ZERO: [&str; 2] = ["of zero", "of others"];
+
+/// Cells that 2,000 sessions may miss, of some seeds. Calls are drawn for them.
+const SELDOM: [(&str, &str); 5] = [
+    ("clipped to upper end", "5"),
+    ("true at lower end", "4"),
+    ("true at lower end", "5"),
+    ("true at upper end", "5"),
+    ("true at upper end", "8"),
+];
+
+impl Watch for ResultCoverage {
+    fn see(&mut self, sight: Sight) {
+        let Sight::Step { operation, b, outcome: Outcome { result, is_true } } = sight else {
+            return;
+        };
+        match result {
+            i32::MIN | i32::MAX => {
+                let row = 2 * usize::from(is_true) + usize::from(result == i32::MAX);
+                self.at_end[row][usize::from(operation)] += 1;
+            }
+            // Clipped to neither end.
+            _ if !is_true => self.by_zero[usize::from(b != 0)] += 1,
+            _ => {}
+        }
+    }
+}
+
+impl ResultCoverage {
+    /// The results that steps can have and these did not.
+    pub fn missed(&self) -> Vec<String> {
+        missed(self.cells())
+    }
+
+    /// The same of sessions, whose operands come as they are drawn.
+    pub fn missed_by_sessions(&self) -> Vec<String> {
+        let often = |cell: &Cell| !SELDOM.contains(&(cell.row, &cell.label));
+        missed(self.cells().filter(often))
+    }
+
+    fn cells(&self) -> impl Iterator<Item = Cell> + '_ {
+        let at_end = AT_END.iter().zip(&self.at_end).flat_map(|(&(row, operations), counts)| {
+            let count = |number: &u8| counts[usize::from(*number)];
+            operations.iter().map(move |n| Cell::new(row, &n.to_string(), count(n)))
+        });
+        let by_zero = BY_ZERO.iter().zip(self.by_zero);
+        at_end.chain(by_zero.map(|(label, count)| Cell::new("zero divisor", label, count)))
+    }
+}
+
+impl Display for ResultCoverage {
+    fn fmt(&self, f: &mut Formatter<'_>) -> fmt::Result {
+        write!(f, "results by operation")?;
+        write_cells(f, self.cells())
+    }
+}
+
+/// What calls found in words 9 to 15 of a store, and what runs left in word 11.
+#[derive(Clone, Default, Debug)]
+pub struct StoreCoverage {
+    /// Of runs and of traced runs, in the order of [`COUNTED`].
+    pub counted: [[u64; COUNTED.len()]; 2],
+    /// Stores not well formed by one word alone, in the order of
+    /// [`word::ZEROS`].
+    pub not_zero: [u64; word::ZEROS.len()],
+}
+
+/// What becomes of the count of untrue steps: a run has none, and the count is
+/// not 0; or it has some, and the count rises below its end, or just to it, or
+/// up to it by less than the run tells, or was there already.
+const COUNTED: [&str; 5] = ["kept", "rose", "reached end", "stopped at end", "stood at end"];
+
+impl Watch for StoreCoverage {
+    fn see(&mut self, sight: Sight) {
+        match sight {
+            Sight::Counted { traced, untrue, before, after } => {
+                let place = match untrue {
+                    0 if before == 0 => return,
+                    0 => 0,
+                    _ if after < u32::MAX => 1,
+                    _ if after - before == untrue => 2,
+                    _ if before < u32::MAX => 3,
+                    _ => 4,
+                };
+                self.counted[usize::from(traced)][place] += 1;
+            }
+            Sight::NotZero(place) => count_in(&mut self.not_zero, &word::ZEROS, place),
+            _ => {}
+        }
+    }
+}
+
+impl StoreCoverage {
+    /// What calls can find and leave there and these did not.
+    pub fn missed(&self) -> Vec<String> {
+        missed(self.cells())
+    }
+
+    fn cells(&self) -> impl Iterator<Item = Cell> + '_ {
+        let rows = ["count of a run", "count of a traced run"];
+        let counted = rows.into_iter().zip(self.counted).flat_map(|(row, counts)| {
+            COUNTED.iter().zip(counts).map(move |(label, count)| Cell::new(row, label, count))
+        });
+        let not_zero = word::ZEROS.iter().zip(self.not_zero);
+        let row = "refusal 6 by word";
+        let not_zero = not_zero.map(move |(word, count)| Cell::new(row, &word.to_string(), count));
+        counted.chain(not_zero)
+    }
+}
+
+impl Display for StoreCoverage {
+    fn fmt(&self, f: &mut Formatter<'_>) -> fmt::Result {
+        write!(f, "stores")?;
+        write_cells(f, self.cells())
+    }
+}
+
+// ---------------------------------------------------------------- calls
+
+/// What calls reached besides their own numbers.
+#[derive(Clone, Default, Debug)]
+pub struct CallCoverage {
+    pub traces: TraceCoverage,
+    pub results: ResultCoverage,
+    pub stores: StoreCoverage,
+}
+
+impl Watch for CallCoverage {
+    fn see(&mut self, sight: Sight) {
+        self.traces.see(sight);
+        self.results.see(sight);
+        self.stores.see(sight);
+    }
+}
+
+impl CallCoverage {
+    pub fn missed(&self) -> Vec<String> {
+        [self.traces.missed(), self.results.missed(), self.stores.missed()].concat()
+    }
+}
+
+impl Display for CallCoverage {
+    fn fmt(&self, f: &mut Formatter<'_>) -> fmt::Result {
+        write!(f, "{}\n{}\n{}", self.traces, self.results, self.stores)
     }
 }

@@ -90,6 +90,8 @@ pub struct Reply {
     /// Frames that were shown, and the line that ended the reading.
     pub shown: u64,
     pub line: u64,
+    /// Untrue steps of a run.
+    pub untrue: u64,
     pub store: Vec<u32>,
     pub output: Vec<u8>,
     pub trace: Vec<u8>,
@@ -150,6 +152,7 @@ impl Reply {
         self.stop = u64::from(told.stop);
         self.bytes = told.bytes as u64;
         self.traced = told.traced as u64;
+        self.untrue = u64::from(told.untrue);
     }
 
     /// A view's length and start.

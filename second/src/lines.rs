@@ -174,6 +174,9 @@ impl<W: Watch> Program<'_, W> {
 
     /// "Each load and call prints C0, flag refusal, a frame, b, c moves, d stop
     /// number, e bytes". The table tells the watcher the kind of the frame.
+    ///
+    /// Open point: the untrue steps that the answer of a run tells besides. They
+    /// are not printed, since the document says what each field of the line is.
     fn print(&mut self, answer: Answer, table: &[u8]) {
         if answer.refusal != 0 {
             let byte = table.get(answer.frame * FRAME_BYTES).copied();

@@ -1,7 +1,7 @@
 //! The moves. The next move is first decided, as a value, and then made, so
 //! that a run can ask for its record before making it.
 
-use crate::arithmetic;
+use crate::arithmetic::{self, Outcome};
 use crate::model::{ElementKind, Guard, Model, Step, Taking, Transition};
 use crate::store::{Current, Mode, State, Waiting};
 use crate::table::operation;
@@ -119,17 +119,21 @@ impl<W: Watch> Machine<'_, W> {
     }
 
     /// Makes a move that [`Machine::next_move`] gave. A record goes to the
-    /// start of `room`, which holds it.
-    pub fn make(&mut self, next: Move, room: &mut [u8]) {
+    /// start of `room`, which holds it. Tells whether the move was an untrue
+    /// step: one whose result is not the true one.
+    pub fn make(&mut self, next: Move, room: &mut [u8]) -> bool {
         match next {
             Move::Take(event, waiting) => self.take(event, waiting, room),
             Move::Change(current, transition) => self.change(current, transition),
             Move::Rest => self.state.mode = Mode::Idle,
-            Move::Step(current, step) => self.step(current, self.model.steps[step]),
+            Move::Step(current, step) => {
+                return !self.step(current, self.model.steps[step]).is_true;
+            }
             Move::Finish(current, action) => self.finish(current, action),
             // "mode 1, live stays 0".
             Move::Return(current) => self.state.mode = Mode::Charts { current, live: false },
         }
+        false
     }
 
     // ------------------------------------------------------------ move 1
@@ -220,29 +224,35 @@ impl<W: Watch> Machine<'_, W> {
     }
 
     /// "one step".
-    fn step(&mut self, current: Current, step: Step) {
-        self.watch.see(Sight::Operation(step.operation));
-        self.state.values[step.result] = self.result(current, step);
+    fn step(&mut self, current: Current, step: Step) -> Outcome {
+        let (operation, b) = (step.operation, self.state.values[step.b]);
+        let outcome = self.outcome(current, step);
+        self.watch.see(Sight::Step { operation, b, outcome });
+        self.state.values[step.result] = outcome.result;
+        if !outcome.is_true {
+            // "counts untrue steps since load and stops at 4,294,967,295".
+            self.state.untrue = self.state.untrue.saturating_add(1);
+        }
         if let Mode::Acts { step, .. } = &mut self.state.mode {
             *step += 1;
         }
+        outcome
     }
 
     /// "Operations: 0 copy b; 1 add; 2 subtract c from b; [...]". The field of an
     /// operand not used is 0, and variable 0 exists since the result does.
-    fn result(&self, current: Current, step: Step) -> i32 {
+    fn outcome(&self, current: Current, step: Step) -> Outcome {
         let (b, c) = (self.state.values[step.b], self.state.values[step.c]);
         match step.operation {
-            operation::COPY => b,
+            operation::COPY => arithmetic::copy(b),
             operation::ADD => arithmetic::add(b, c),
             operation::SUBTRACT => arithmetic::subtract(b, c),
             operation::NEGATE => arithmetic::negate(b),
             operation::MULTIPLY => arithmetic::multiply(b, c),
             operation::DIVIDE => arithmetic::divide(b, c),
-            operation::MINIMUM => b.min(c),
-            operation::MAXIMUM => b.max(c),
-            // "age (now less the birth of the current event)".
-            _ => arithmetic::nearest(i64::from(self.state.now) - i64::from(current.birth)),
+            operation::MINIMUM => arithmetic::minimum(b, c),
+            operation::MAXIMUM => arithmetic::maximum(b, c),
+            _ => arithmetic::age(self.state.now, current.birth),
         }
     }
 

@@ -21,8 +21,13 @@ pub mod word {
     pub const ACTION: usize = 6;
     pub const STEP: usize = 7;
     pub const OVERWRITTEN: usize = 8;
-    /// "Words 9 to 15 zero."
-    pub const FIRST_ZERO: usize = 9;
+    /// "Word 11 counts untrue steps since load and stops at 4,294,967,295."
+    ///
+    /// Open point: what a well formed store has there. Any word, as in word 8:
+    /// a store does not tell how many steps were made since load.
+    pub const UNTRUE: usize = 11;
+    /// "Words 9 to 15 zero", but for word 11.
+    pub const ZEROS: [usize; 6] = [9, 10, 12, 13, 14, 15];
     pub const FIRST_PART: usize = 16;
 }
 
@@ -36,6 +41,8 @@ pub struct State {
     pub now: u32,
     pub mode: Mode,
     pub overwritten: u32,
+    /// How many steps since load had a result that is not the true one.
+    pub untrue: u32,
     /// Per element: the chart state, of a basic element.
     pub chart_states: Vec<Option<usize>>,
     /// Per element: the due time, of a delay that is due.
@@ -123,6 +130,7 @@ pub fn loaded(model: &Model) -> State {
         now: 0,
         mode: Mode::Idle,
         overwritten: 0,
+        untrue: 0,
         chart_states: model.elements.iter().map(|e| e.initial_state).collect(),
         due: vec![None; model.elements.len()],
         waiting: vec![None; model.event_inputs.len()],
@@ -139,7 +147,7 @@ pub fn read(model: &Model, store: &[u32]) -> Option<State> {
     let layout = Layout::of(model);
     let now = store[word::NOW];
     // "every zero named above holds; now in range".
-    if now > GREATEST_TIME || has_other_than_zero(&store[word::FIRST_ZERO..word::FIRST_PART]) {
+    if now > GREATEST_TIME || word::ZEROS.iter().any(|&place| store[place] != 0) {
         return None;
     }
     let (chart_states, due) = read_elements(model, &store[layout.elements], now)?;
@@ -150,12 +158,23 @@ pub fn read(model: &Model, store: &[u32]) -> Option<State> {
         now,
         mode,
         overwritten: store[word::OVERWRITTEN],
+        untrue: store[word::UNTRUE],
         chart_states,
         due,
         waiting,
         values,
         buffers,
     })
+}
+
+/// Of a store that is not well formed, the zero word that alone is at fault.
+pub fn lone_fault(model: &Model, store: &[u32]) -> Option<usize> {
+    let mends = |place: &usize| {
+        let mut mended = store.to_vec();
+        mended[*place] = 0;
+        read(model, &mended).is_some()
+    };
+    word::ZEROS.into_iter().find(mends)
 }
 
 fn has_other_than_zero(words: &[u32]) -> bool {
@@ -302,6 +321,7 @@ fn head(state: &State) -> [u32; word::FIRST_PART] {
     let mut words = [0; word::FIRST_PART];
     words[word::NOW] = state.now;
     words[word::OVERWRITTEN] = state.overwritten;
+    words[word::UNTRUE] = state.untrue;
     let current = match state.mode {
         Mode::Idle => return words,
         Mode::Charts { current, live } => {

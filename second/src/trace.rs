@@ -10,7 +10,7 @@
 //! the value that it had gives no frame.
 //!
 //! Open point: what else a move changes (buffers, what waits, due times, the
-//! overwritten count) has no kind and is not traced.
+//! overwritten and the untrue count) has no kind and is not traced.
 
 use crate::machine::{Machine, Move};
 use crate::model::{Model, Role, Taking};

@@ -1,6 +1,7 @@
 //! What the machine and the step program tell a watcher while they work. The
 //! watcher counts (see [`crate::coverage`]) and can change nothing.
 
+use crate::arithmetic::Outcome;
 use crate::calls::Held;
 use crate::model::ElementKind;
 use crate::reader::Ending;
@@ -10,8 +11,8 @@ use crate::reader::Ending;
 pub enum Sight {
     /// An event of an element of this kind was taken or, for a source, arrived.
     Element(ElementKind),
-    /// A step with this operation number was executed.
-    Operation(u8),
+    /// A step with this operation number was executed, on this value of b.
+    Step { operation: u8, b: i32, outcome: Outcome },
     /// A guard with this number was evaluated.
     Guard(u8),
     /// An input that waited already was given a new event.
@@ -38,6 +39,10 @@ pub enum Sight {
     Held(Held),
     /// A trace was read up to here.
     Read(Ending),
+    /// A run with so many untrue steps found and left these counts of them.
+    Counted { traced: bool, untrue: u32, before: u32, after: u32 },
+    /// A store was not well formed because of this word alone, which must be 0.
+    NotZero(usize),
 }
 
 pub trait Watch {
@@ -47,4 +52,12 @@ pub trait Watch {
 /// The watcher of those who want to know nothing.
 impl Watch for () {
     fn see(&mut self, _: Sight) {}
+}
+
+/// Two watchers see the same.
+impl<A: Watch, B: Watch> Watch for (A, B) {
+    fn see(&mut self, sight: Sight) {
+        self.0.see(sight);
+        self.1.see(sight);
+    }
 }

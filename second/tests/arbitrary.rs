@@ -3,7 +3,7 @@
 //! store well formed, the words past the need and the rest of the output buffer
 //! and the trace room.
 
-use second::coverage::TraceCoverage;
+use second::coverage::{CallCoverage, StoreCoverage, TraceCoverage};
 use second::gen::faults::{faulty_line, good_line};
 use second::gen::requests::requests;
 use second::gen::rng::Rng;
@@ -25,7 +25,7 @@ fn judge_refused(request: &Request, reply: &Reply) {
     assert_eq!(request.store, reply.store, "a refused call wrote to the store");
     assert_eq!(request.call.output(), reply.output, "a refused call wrote to the output");
     assert_eq!(request.call.trace(), reply.trace, "a refused call wrote to the trace room");
-    assert_eq!((reply.moves, reply.stop, reply.bytes), (0, 0, 0));
+    assert_eq!((reply.moves, reply.stop, reply.bytes, reply.untrue), (0, 0, 0, 0));
     assert_eq!((reply.traced, reply.shown, reply.line), (0, 0, 0));
 }
 
@@ -41,7 +41,23 @@ fn judge_accepted(request: &Request, reply: &Reply) {
             assert!(store::read(&model, &reply.store).is_some(), "not well formed any more");
             let need = store::need(&model);
             assert_eq!(request.store[need..], reply.store[need..]);
+            judge_count(request, reply);
         }
+    }
+}
+
+/// Load zeroes the count of untrue steps, a run raises it by what it tells, up
+/// to its end, and no other call changes it or tells of such steps.
+fn judge_count(request: &Request, reply: &Reply) {
+    let (before, after) = (request.store[store::word::UNTRUE], reply.store[store::word::UNTRUE]);
+    assert!(reply.untrue <= reply.moves, "more untrue steps than moves");
+    match request.call {
+        Call::Load => assert_eq!((after, reply.untrue), (0, 0)),
+        Call::Run { .. } | Call::RunTraced { .. } => {
+            let sum = u64::from(before) + reply.untrue;
+            assert_eq!(u64::from(after), sum.min(u64::from(u32::MAX)));
+        }
+        _ => assert_eq!((after, reply.untrue), (before, 0)),
     }
 }
 
@@ -112,11 +128,9 @@ fn a_seed_gives_the_same_requests_each_time() {
     assert_eq!(drawn(), drawn());
 }
 
-// ---------------------------------------------------------------- traces
-
 #[test]
-fn five_thousand_calls_reach_every_trace_kind_and_every_fault() {
-    let (mut reached, mut calls, mut round) = (TraceCoverage::default(), 0, 0);
+fn five_thousand_calls_reach_all_that_can_be_seen() {
+    let (mut reached, mut calls, mut round) = (CallCoverage::default(), 0, 0);
     while calls < 5000 {
         requests(5, round, &mut |request| {
             calls += 1;
@@ -125,9 +139,13 @@ fn five_thousand_calls_reach_every_trace_kind_and_every_fault() {
         round += 1;
     }
     assert_eq!(reached.missed(), Vec::<String>::new());
-    // 11 kinds, 4 ways to be held, 6 endings and 24 faults.
+    // 11 kinds, 4 ways to be held, 6 endings and 24 faults; 5 things that become
+    // of the count of a run, traced or not, and 6 words.
     assert_eq!(TraceCoverage::default().missed().len(), 11 + 4 + 6 + 24);
+    assert_eq!(StoreCoverage::default().missed().len(), 2 * 5 + 6);
 }
+
+// ---------------------------------------------------------------- traces
 
 struct Last(Option<Ending>);
 

@@ -157,23 +157,23 @@ fn the_latest_due_time_is_4294967294() {
 
 #[test]
 fn results_outside_the_range_become_the_nearest_end() {
-    assert_eq!(negate(i32::MIN), 2_147_483_647);
-    assert_eq!(divide(i32::MIN, -1), 2_147_483_647);
-    assert_eq!(add(i32::MAX, 1), i32::MAX);
-    assert_eq!(add(i32::MIN, -1), i32::MIN);
-    assert_eq!(subtract(i32::MIN, 1), i32::MIN);
-    assert_eq!(subtract(i32::MAX, -1), i32::MAX);
-    assert_eq!(multiply(i32::MIN, i32::MIN), i32::MAX);
-    assert_eq!(multiply(i32::MIN, i32::MAX), i32::MIN);
+    assert_eq!(negate(i32::MIN).result, 2_147_483_647);
+    assert_eq!(divide(i32::MIN, -1).result, 2_147_483_647);
+    assert_eq!(add(i32::MAX, 1).result, i32::MAX);
+    assert_eq!(add(i32::MIN, -1).result, i32::MIN);
+    assert_eq!(subtract(i32::MIN, 1).result, i32::MIN);
+    assert_eq!(subtract(i32::MAX, -1).result, i32::MAX);
+    assert_eq!(multiply(i32::MIN, i32::MIN).result, i32::MAX);
+    assert_eq!(multiply(i32::MIN, i32::MAX).result, i32::MIN);
 }
 
 #[test]
 fn results_inside_the_range_are_exact() {
-    assert_eq!(divide(-7, 2), -3);
-    assert_eq!(divide(7, -2), -3);
-    assert_eq!(divide(5, 0), 0);
-    assert_eq!(negate(i32::MAX), -i32::MAX);
-    assert_eq!(add(i32::MAX, i32::MIN), -1);
-    assert_eq!(subtract(-1, i32::MAX), i32::MIN);
-    assert_eq!(multiply(-65536, 32768), i32::MIN);
+    assert_eq!(divide(-7, 2).result, -3);
+    assert_eq!(divide(7, -2).result, -3);
+    assert_eq!(divide(5, 0).result, 0);
+    assert_eq!(negate(i32::MAX).result, -i32::MAX);
+    assert_eq!(add(i32::MAX, i32::MIN).result, -1);
+    assert_eq!(subtract(-1, i32::MAX).result, i32::MIN);
+    assert_eq!(multiply(-65536, 32768).result, i32::MIN);
 }

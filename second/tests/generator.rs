@@ -2,7 +2,7 @@
 
 mod common;
 
-use second::coverage::{Coverage, ENOUGH_SESSIONS};
+use second::coverage::{Coverage, ResultCoverage, ENOUGH_SESSIONS};
 use second::gen::session;
 use second::lines::{frame_of_line, lines_of, step_program};
 use second::renumber::without;
@@ -11,11 +11,12 @@ use std::time::{Duration, Instant};
 
 #[test]
 fn enough_sessions_reach_every_number() {
-    let mut coverage = Coverage::default();
+    let mut reached = (Coverage::default(), ResultCoverage::default());
     for number in 0..ENOUGH_SESSIONS {
-        step_program(&session(1, number), &mut coverage);
+        step_program(&session(1, number), &mut reached);
     }
-    assert_eq!(coverage.missed(), Vec::<String>::new());
+    assert_eq!(reached.0.missed(), Vec::<String>::new());
+    assert_eq!(reached.1.missed_by_sessions(), Vec::<String>::new());
 }
 
 #[test]
@@ -25,6 +26,10 @@ fn an_empty_coverage_misses_every_number_that_can_be_reached() {
     // of refused frames and 7 sights more.
     assert_eq!(missed.len(), 10 + 3 + 5 + 9 + 5 + 12 + 11 + 5 + 7);
     assert!(!missed.contains(&"refusal 5".to_string()));
+    // Clipped to either end, true at either end, divided by zero; five of them
+    // seldom.
+    assert_eq!(ResultCoverage::default().missed().len(), 3 + 5 + 7 + 9 + 2);
+    assert_eq!(ResultCoverage::default().missed_by_sessions().len(), 26 - 5);
 }
 
 #[test]

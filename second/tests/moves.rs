@@ -2,7 +2,8 @@
 
 mod common;
 use common::{
-    loaded, record, refused, run_all, table, FULL, FULL_EVENTS, FULL_NEED, FULL_VARIABLES,
+    chart, loaded, record, refused, run_all, table, CHART_VARIABLES, FULL, FULL_EVENTS, FULL_NEED,
+    FULL_VARIABLES,
 };
 use second::{advance, arrival, run, Answer};
 
@@ -254,41 +255,13 @@ fn an_interface_carries_the_partners_of_the_associated_inputs_only() {
 
 // ---------------------------------------------------------------- charts
 
-/// A source and a basic element with one event, states 0 to 2, inputs 2 and 3
-/// fed by the source's variables 0 and 1, and the output 4.
-fn chart(lines: &[String]) -> Vec<u8> {
-    let mut all: Vec<String> = [
-        "0103",
-        "01000001",
-        "02000001",
-        "0300",
-        "0401",
-        "0401",
-        "04000001",
-        "04000001",
-        "04010001",
-        "050000000002",
-        "050000000003",
-        "050100000000",
-        "050100000001",
-        "06000001",
-        "06000001",
-        "06000001",
-    ]
-    .map(String::from)
-    .to_vec();
-    all.extend_from_slice(lines);
-    all.extend(["0A00", "0B0000000002", "0B0000010003"].map(String::from));
-    table(&all.iter().map(String::as_str).collect::<Vec<&str>>())
-}
-
 /// The chart state and the output after the values arrived, born 4 at 10.
 fn after(table: &[u8], values: &[i32; 2]) -> (u32, i32) {
     let mut store = loaded(table, 60);
     made(advance(table, &mut store, 10));
     made(arrival(table, &mut store, 0, 4, values));
     assert_eq!(run_all(table, &mut store).0.stop, 1);
-    (store[19], value(&store, 16 + 6 + 3, 4))
+    (store[19], value(&store, CHART_VARIABLES, 4))
 }
 
 #[test]

@@ -82,11 +82,16 @@ fn now_is_in_range() {
 }
 
 #[test]
-fn words_9_to_15_are_zero_and_word_8_is_free() {
-    for place in 9..16 {
+fn words_9_10_and_12_to_15_are_zero_and_words_8_and_11_are_free() {
+    for place in [9, 10, 12, 13, 14, 15] {
         refuses_each(&[], &[(place, 1), (place, u32::MAX)]);
+        assert!(!accepts(&[(11, 7)], &[(place, 1)]));
     }
-    accepts_each(&[], &[(8, 1), (8, u32::MAX)]);
+    for base in [&[][..], &CHARTS, &ACTS] {
+        for free in [8, 11] {
+            accepts_each(base, &[(free, 1), (free, u32::MAX - 1), (free, u32::MAX)]);
+        }
+    }
 }
 
 #[test]

@@ -17,7 +17,7 @@ use Rattle.rules_calls.specs.declared.Answer.{Answer}
 use Rattle.rules_calls.specs.declared.Answer.the-variants.{Refused, Ran as «RanTo»}
 use Rattle.rules_calls.specs.Answer.{refusedOf}
 use Rattle.rules_calls.specs.Refusals.{storeRefusal}
-use Rattle.rules_calls.specs.Run.{after, bytes}
+use Rattle.rules_calls.specs.Run.{after, bytes, untrueIn}
 use Rattle.rules_calls.specs.laws.Checked.{faulty, verdict, shape}
 use Rattle.rules_traces.specs.Run.{trace}
 use Rattle.rules_traces.specs.Public.{TracedCall}
@@ -27,13 +27,13 @@ use Rattle.calls_run.specs.RunMade.{TracedMade}
 
 module _ (T s : List ℕ) (budget : ℕ) (out tr : List ℕ) {j : Judged} (told : j ≡ judged T) where
   pub traced-faulty : {a : Answer} {q f : ℕ} → j ≡ «Faulty» q f → a ≡ refusedOf j → TracedCall T s budget out tr (record { answer = a; traced = 0 }) s out tr
-  unfolding after bytes trace
+  unfolding after bytes untrueIn trace
   traced-faulty e p =
       let v = faulty T told e in
       rw (p, e)
       (record {
         answer = rw v refl;
-        tells = rw v (record { number-is = refl; frame-is = refl; moves-are = refl; bytes-are = refl; stop-is = refl });
+        tells = rw v (record { number-is = refl; frame-is = refl; moves-are = refl; bytes-are = refl; stop-is = refl; untrue-are = refl });
         traced = refl;
         store = refl;
         output = refl;
@@ -45,12 +45,12 @@ module _ (T s : List ℕ) (budget : ℕ) (out tr : List ℕ) {j : Judged} (told 
     asked = sym (rw (shape T told sound) at first)
 
     pub traced-unready : (q ≡ 0 → ⊥) → TracedCall T s budget out tr (record { answer = Refused q 0; traced = 0 }) s out tr
-    unfolding after bytes trace
+    unfolding after bytes untrueIn trace
     traced-unready n =
         let v = verdict T told sound in
         record {
           answer = rw (v, asked, ne-eqb q 0 n) refl;
-          tells = rw (v, asked, ne-eqb q 0 n) (record { number-is = refl; frame-is = refl; moves-are = refl; bytes-are = refl; stop-is = refl });
+          tells = rw (v, asked, ne-eqb q 0 n) (record { number-is = refl; frame-is = refl; moves-are = refl; bytes-are = refl; stop-is = refl; untrue-are = refl });
           traced = refl;
           store = refl;
           output = refl;
@@ -58,13 +58,13 @@ module _ (T s : List ℕ) (budget : ℕ) (out tr : List ℕ) {j : Judged} (told 
         }
 
     pub traced-done : {time : ℕ} (x : Ran) (s′ out′ tr′ : List ℕ) → q ≡ 0 → time ≡ nowOf s → TracedMade T S time budget s out tr x s′ out′ tr′
-        → TracedCall T s budget out tr (record { answer = «RanTo» (x .moves) (x .bytes) (x .stop); traced = x .traced }) s′ out′ tr′
+        → TracedCall T s budget out tr (record { answer = «RanTo» (x .moves) (x .bytes) (x .stop) (x .untrue); traced = x .traced }) s′ out′ tr′
     traced-done x s′ out′ tr′ z t d =
         let v = verdict T told sound in
         let w : TracedMade T (shapeOf T) (nowOf s) budget s out tr x s′ out′ tr′ = rw (shape T told sound, t) at d in
         record {
-          answer = rw (v, asked ∙ z, ← w .moves-made, ← w .bytes-written, ← w .stopped) refl;
-          tells = rw (v, asked ∙ z, ← w .moves-made, ← w .bytes-written, ← w .stopped) (record { number-is = refl; frame-is = refl; moves-are = refl; bytes-are = refl; stop-is = refl });
+          answer = rw (v, asked ∙ z, ← w .moves-made, ← w .bytes-written, ← w .stopped, ← w .untrue-made) refl;
+          tells = rw (v, asked ∙ z, ← w .moves-made, ← w .bytes-written, ← w .stopped, ← w .untrue-made) (record { number-is = refl; frame-is = refl; moves-are = refl; bytes-are = refl; stop-is = refl; untrue-are = refl });
           traced = w .trace-written;
           store = w .store-after;
           output = w .out-after;

@@ -184,10 +184,10 @@ module _ (T s : List ℕ) (budget : ℕ) (out : List ℕ) {j : Judged} (told : j
         (rw asked (kept-stop (judge T) q out out-would (verdict T told sound) n))
 
     pub run-done : {time : ℕ} (x : Ran) (s′ out′ : List ℕ) → q ≡ 0 → time ≡ nowOf s → RunMade T S time budget s out x s′ out′
-        → RunCall T s budget out («RanTo» (x .moves) (x .bytes) (x .stop)) s′ out′
+        → RunCall T s budget out («RanTo» (x .moves) (x .bytes) (x .stop) (x .untrue)) s′ out′
     run-done x s′ out′ z t d =
         let w : RunMade T (shapeOf T) (nowOf s) budget s out x s′ out′ = rw (shape T told sound, t) at d in
-        let e : «RanTo» (x .moves) (x .bytes) (x .stop) ≡ would = rw (← w .moves-made, ← w .bytes-written, ← w .stopped) in
+        let e : «RanTo» (x .moves) (x .bytes) (x .stop) (x .untrue) ≡ would = rw (← w .moves-made, ← w .bytes-written, ← w .stopped, ← w .untrue-made) in
         run-call T s budget out (e ∙ answer-pass (judge T) (storeRefusal T (shapeOf T) s) would (verdict T told sound) (asked ∙ z))
         (kept-pass (judge T) (storeRefusal T (shapeOf T) s) s store-would (verdict T told sound) (asked ∙ z) (rw (← w .moves-made) (w .store-after)))
         (kept-pass (judge T) (storeRefusal T (shapeOf T) s) out out-would (verdict T told sound) (asked ∙ z) (rw (← w .moves-made) (w .out-after)))

@@ -156,5 +156,5 @@ pub fn run(t: &[u8], store: &mut [u32], budget: u32, out: &mut [u8]) -> Answer
     let at = time(store);
     let mut none = [0u8; 0];
     let r = run_moves(t, store, shape, at, budget, out, &mut none, false);
-    Answer::Ran(r.moves, r.bytes, r.stop)
+    Answer::Ran(r.moves, r.bytes, r.stop, r.untrue)
 }

@@ -36,7 +36,7 @@ pub fn run_traced(
     let at = time(store);
     let r = run_moves(t, store, shape, at, budget, out, trace, true);
     Traced {
-        answer: Answer::Ran(r.moves, r.bytes, r.stop),
+        answer: Answer::Ran(r.moves, r.bytes, r.stop, r.untrue),
         traced: r.traced,
     }
 }

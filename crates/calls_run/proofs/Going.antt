@@ -1,4 +1,4 @@
--- A run on its way: after n moves, with `at` bytes written.
+-- A run on its way: after n moves, with `at` bytes written and u untrue steps.
 use mathlib.Core.Path.{_≡_, refl, sym, ap, _∙_}
 use mathlib.Core.List.{List, _++_}
 use mathlib.Core.Bool.{Bool, true, false}
@@ -20,12 +20,13 @@ use Rattle.rules_tables.specs.declared.Shape.{Shape}
 use Rattle.rules_store.specs.declared.Running.{Running}
 use Rattle.rules_store.specs.Word.{runningOf}
 use Rattle.rules_moves.specs.declared.Next.{Next}
-use Rattle.rules_moves.specs.Next.{nextBy, nextOf, moves, move, written, writtenBy, sizeBy}
+use Rattle.rules_moves.specs.Next.{nextBy, nextOf, moves, move, untrueMove, written, writtenBy, sizeBy}
 use Rattle.moves_next.specs.Made.{Made}
-use Rattle.rules_calls.specs.Run.{after, bytes, another, roomFor, continues, made, stopAfter}
+use Rattle.rules_calls.specs.Run.{after, bytes, untrueIn, another, roomFor, continues, made, stopAfter}
+use Rattle.rules_calls.specs.laws.Run.{untrue-fit}
 use Rattle.calls_run.specs.RunMade.{asked, RunMade}
 
-pub record Going (T : List ℕ) (S : Shape) (time budget : ℕ) (s₀ out₀ s out : List ℕ) (n at : ℕ) : Type 0 where
+pub record Going (T : List ℕ) (S : Shape) (time budget : ℕ) (s₀ out₀ s out : List ℕ) (n at u : ℕ) : Type 0 where
   pub within : n ≤ budget
   pub store : s ≡ after T S time n s₀
   pub output : out ≡ sets out₀ 0 (bytes T S time n s₀)
@@ -33,6 +34,7 @@ pub record Going (T : List ℕ) (S : Shape) (time budget : ℕ) (s₀ out₀ s o
   pub fits : at ≤ length out₀
   pub long : length out ≡ length out₀
   pub went : allTo (continues T S time (length out₀) s₀) n ≡ true
+  pub untrue-is : u ≡ untrueIn T S time n s₀
 
 -- room in what is left is room after what is written
 pub left-room : (at z room : ℕ) → at ≤ room → leb z (room - at) ≡ leb (at + z) room
@@ -59,11 +61,11 @@ unfolding nextOf
 comes-next T S s read e = rw (← read) e
 
 module _ (T : List ℕ) (S : Shape) (time budget : ℕ) (s₀ out₀ : List ℕ) where
-  pub going-start : Going T S time budget s₀ out₀ s₀ out₀ 0 0
-  unfolding after bytes
-  going-start = record { within = omega arith; store = refl; output = refl; place = refl; fits = omega arith; long = refl; went = all-none (continues T S time (length out₀) s₀) }
+  pub going-start : Going T S time budget s₀ out₀ s₀ out₀ 0 0 0
+  unfolding after bytes untrueIn
+  going-start = record { within = omega arith; store = refl; output = refl; place = refl; fits = omega arith; long = refl; went = all-none (continues T S time (length out₀) s₀); untrue-is = refl }
 
-  module _ (s out : List ℕ) (n at : ℕ) (w : Going T S time budget s₀ out₀ s out n at) {next : Next} (comes : next ≡ nextOf T S s) where
+  module _ (s out : List ℕ) (n at u : ℕ) (w : Going T S time budget s₀ out₀ s out n at u) {next : Next} (comes : next ≡ nextOf T S s) where
     -- the bytes that it writes
     abbrev z : ℕ
     z = sizeBy T S time next s
@@ -101,8 +103,16 @@ module _ (T : List ℕ) (S : Shape) (time budget : ℕ) (s₀ out₀ : List ℕ)
       unfolding after
       moved n = rw (add-one n) refl
 
-      pub going-more : (s′ out′ : List ℕ) {p : ℕ} → Made T S time next s s′ out out′ at p → Going T S time budget s₀ out₀ s′ out′ (n + 1) p
-      unfolding move written sizeBy
+      counts : (n : ℕ) → untrueIn T S time (n + 1) s₀ ≡ untrueIn T S time n s₀ + untrueMove T S time (after T S time n s₀)
+      unfolding untrueIn
+      counts n = rw (add-one n) refl
+
+      -- so the count of untrue steps does not pass that of the moves, which stays below the budget
+      pub untrue-left : u < budget
+      untrue-left = let few = untrue-fit T S time s₀ n in let g = budget-left in let c = w .untrue-is in omega arith
+
+      pub going-more : (s′ out′ : List ℕ) {p x : ℕ} → Made T S time next s s′ out out′ at p u x → Going T S time budget s₀ out₀ s′ out′ (n + 1) p x
+      unfolding move untrueMove written sizeBy
       going-more s′ out′ m =
           let p = m .store in
           let q = m .output in
@@ -119,10 +129,11 @@ module _ (T : List ℕ) (S : Shape) (time budget : ℕ) (s₀ out₀ : List ℕ)
             fits = omega (arith, w .long);
             long = ap length q ∙ length-sets out at (writtenBy T S time next s) ∙ w .long;
             went = all-more (continues T S time (length out₀) s₀) n (w .went) went-on;
+            untrue-is = rw (counts n, ← w .store, ← comes, ← w .untrue-is) (m .untrue-told);
           }
 
     -- the run stops
-    pub going-done : {stop : ℕ} → stop ≡ asked next z at (length out) n budget → (stop ≡ 0 → ⊥) → {p : ℕ} → RunMade T S time budget s₀ out₀ (record { moves = n; bytes = at; stop = stop; traced = p }) s out
+    pub going-done : {stop : ℕ} → stop ≡ asked next z at (length out) n budget → (stop ≡ 0 → ⊥) → {p : ℕ} → RunMade T S time budget s₀ out₀ (record { moves = n; bytes = at; stop = stop; traced = p; untrue = u }) s out
     unfolding asked continues made stopAfter
     going-done {stop} e ne =
         let c = stops (moves next) (leb (at + z) (length out)) (ltb n budget) (λ h. ne (e ∙ h)) in
@@ -138,4 +149,5 @@ module _ (T : List ℕ) (S : Shape) (time budget : ℕ) (s₀ out₀ : List ℕ)
           out-after = w .output;
           bytes-written = w .place;
           stopped = e ∙ c .0 ∙ rw (is-another, is-room);
+          untrue-made = w .untrue-is;
         }

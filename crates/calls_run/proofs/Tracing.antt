@@ -149,7 +149,7 @@ tracing-start T S time s₀ tr₀ =
     record { written = refl; place = refl; fits = omega arith; long = refl; went = all-none (traceRoomFor T S time (length tr₀) s₀) }
 
 module _ (T : List ℕ) (S : Shape) (time budget : ℕ) (s₀ out₀ tr₀ : List ℕ) where
-  module _ (s out tr : List ℕ) (n at p : ℕ) (w : Going T S time budget s₀ out₀ s out n at) (v : Tracing T S time s₀ tr₀ tr n p) {next : Next} (comes : next ≡ nextOf T S s) where
+  module _ (s out tr : List ℕ) (n at u p : ℕ) (w : Going T S time budget s₀ out₀ s out n at u) (v : Tracing T S time s₀ tr₀ tr n p) {next : Next} (comes : next ≡ nextOf T S s) where
     -- the bytes that it writes to the output, and to the trace
     abbrev z : ℕ
     z = sizeBy T S time next s
@@ -205,7 +205,7 @@ module _ (T : List ℕ) (S : Shape) (time budget : ℕ) (s₀ out₀ tr₀ : Lis
 
     -- the run stops
     pub traced-done : {stop : ℕ} → stop ≡ askedTraced next z at (length out) y p (length tr) n budget → (stop ≡ 0 → ⊥)
-        → TracedMade T S time budget s₀ out₀ tr₀ (record { moves = n; bytes = at; stop = stop; traced = p }) s out tr
+        → TracedMade T S time budget s₀ out₀ tr₀ (record { moves = n; bytes = at; stop = stop; traced = p; untrue = u }) s out tr
     unfolding askedTraced continues tracedContinues tracedMade tracedStop
     traced-done {stop} e ne =
         let c = stops (moves next) (leb (at + z) (length out)) (leb (p + y) (length tr)) (ltb n budget) (λ h. ne (e ∙ h)) in
@@ -226,6 +226,7 @@ module _ (T : List ℕ) (S : Shape) (time budget : ℕ) (s₀ out₀ tr₀ : Lis
           trace-after = v .written;
           trace-written = v .place;
           stopped = e ∙ c .0 ∙ rw (is-another, is-room, is-space);
+          untrue-made = w .untrue-is;
         }
 
 -- ---- the loop, with a trace or without
@@ -238,7 +239,7 @@ pub tracked-start : (tracing : Bool) (T : List ℕ) (S : Shape) (time : ℕ) (s�
 tracked-start tracing T S time s₀ tr₀ = record { going = λ _. tracing-start T S time s₀ tr₀; long = refl; fits = omega arith }
 
 module _ (tracing : Bool) (T : List ℕ) (S : Shape) (time budget : ℕ) (s₀ out₀ tr₀ : List ℕ) where
-  module _ (s out tr : List ℕ) (n at p : ℕ) (w : Going T S time budget s₀ out₀ s out n at) (v : Tracked tracing T S time s₀ tr₀ tr n p) {next : Next} (comes : next ≡ nextOf T S s) where
+  module _ (s out tr : List ℕ) (n at u p : ℕ) (w : Going T S time budget s₀ out₀ s out n at u) (v : Tracked tracing T S time s₀ tr₀ tr n p) {next : Next} (comes : next ≡ nextOf T S s) where
     abbrev asks : Bool → ℕ
     asks t = askedBy t next (sizeBy T S time next s) at (length out) (length (entryFrames (entriesBy T S time next s))) p (length tr) n budget
 
@@ -251,20 +252,20 @@ module _ (tracing : Bool) (T : List ℕ) (S : Shape) (time budget : ℕ) (s₀ o
       traced-go-on t = go ∙ ap asks t
 
       pub space-if : tracing ≡ true → Room (entriesBy T S time next s) p tr
-      space-if t = space-left T S time budget s₀ out₀ tr₀ s out tr n at p w (v .going t) comes (traced-go-on t)
+      space-if t = space-left T S time budget s₀ out₀ tr₀ s out tr n at u p w (v .going t) comes (traced-go-on t)
 
       pub tracked-more : {tr′ : List ℕ} {p′ : ℕ} → ToldIf tracing (entriesBy T S time next s) p tr tr′ p′ → Tracked tracing T S time s₀ tr₀ tr′ (n + 1) p′
       tracked-more d =
           record {
-            going = λ t. tracing-more T S time budget s₀ out₀ tr₀ s out tr n at p w (v .going t) comes (traced-go-on t) (d .told t);
+            going = λ t. tracing-more T S time budget s₀ out₀ tr₀ s out tr n at u p w (v .going t) comes (traced-go-on t) (d .told t);
             long = d .long ∙ v .long;
             fits = d .fits;
           }
 
-    pub run-done : {stop : ℕ} → stop ≡ asks tracing → (stop ≡ 0 → ⊥) → RanAs tracing T S time budget s₀ out₀ tr₀ (record { moves = n; bytes = at; stop = stop; traced = p }) s out tr
+    pub run-done : {stop : ℕ} → stop ≡ asks tracing → (stop ≡ 0 → ⊥) → RanAs tracing T S time budget s₀ out₀ tr₀ (record { moves = n; bytes = at; stop = stop; traced = p; untrue = u }) s out tr
     unfolding askedBy
     run-done e ne =
         record {
-          untraced = λ t. going-done T S time budget s₀ out₀ s out n at w comes (e ∙ ap asks t) ne;
-          traced = λ t. traced-done T S time budget s₀ out₀ tr₀ s out tr n at p w (v .going t) comes (e ∙ ap asks t) ne;
+          untraced = λ t. going-done T S time budget s₀ out₀ s out n at u w comes (e ∙ ap asks t) ne;
+          traced = λ t. traced-done T S time budget s₀ out₀ tr₀ s out tr n at u p w (v .going t) comes (e ∙ ap asks t) ne;
         }

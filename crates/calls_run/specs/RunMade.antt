@@ -1,4 +1,4 @@
--- What the code of a run promises its caller: moves, store, output, bytes and stop number, and how one turn asks why to stop.
+-- What the code of a run promises its caller: moves, store, output, bytes, stop number and untrue steps, and how one turn asks why to stop.
 use Prim.Native.Nat.{ℕ, _+_, _≤_}
 use mathlib.Core.Bool.{Bool, true, false}
 use mathlib.Core.List.{List}
@@ -11,7 +11,7 @@ use Rattle.calls_run.specs.declared.running.Ran.{Ran}
 use Rattle.rules_walks.specs.Pick.{pick}
 use Rattle.rules_tables.specs.declared.Shape.{Shape}
 use Rattle.rules_moves.specs.Next.{moves}
-use Rattle.rules_calls.specs.Run.{after, bytes, made, stopAfter}
+use Rattle.rules_calls.specs.Run.{after, bytes, untrueIn, made, stopAfter}
 use Rattle.rules_traces.specs.declared.Entry.{Entry}
 use Rattle.rules_traces.specs.Run.{trace, tracedMade, tracedStop}
 use Rattle.moves_tell.specs.Told.{Told}
@@ -27,6 +27,7 @@ pub record RunMade (T : List ℕ) (S : Shape) (time budget : ℕ) (s out : List 
   pub out-after : out′ ≡ sets out 0 (bytes T S time (r .moves) s)
   pub bytes-written : r .bytes ≡ length (bytes T S time (r .moves) s)
   pub stopped : r .stop ≡ stopAfter T S time (length out) s (r .moves)
+  pub untrue-made : r .untrue ≡ untrueIn T S time (r .moves) s
 
 -- ---- with a trace
 -- the same with p bytes of trace written; the next move's frames have y
@@ -53,6 +54,7 @@ pub record TracedMade (T : List ℕ) (S : Shape) (time budget : ℕ) (s out tr :
   pub trace-after : tr′ ≡ sets tr 0 (trace T S time (r .moves) s)
   pub trace-written : r .traced ≡ length (trace T S time (r .moves) s)
   pub stopped : r .stop ≡ tracedStop T S time (length out) (length tr) s (r .moves)
+  pub untrue-made : r .untrue ≡ untrueIn T S time (r .moves) s
 
 -- what a run leaves, with a trace or without
 pub record RanAs (tracing : Bool) (T : List ℕ) (S : Shape) (time budget : ℕ) (s out tr : List ℕ) (r : Ran) (s′ out′ tr′ : List ℕ) : Type 0 where

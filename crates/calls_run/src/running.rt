@@ -31,18 +31,20 @@ use store_words::word::running;
 use table_index::index::SIZE;
 use table_index::index::index;
 
-// What a run tells: the moves made, the bytes written, why no more were made, and the bytes of its trace.
+// What a run tells: the moves made, the bytes written, why no more were made, the bytes of its trace, and how many of its steps were untrue.
 pub struct Ran {
     pub moves: u32,
     pub bytes: usize,
     pub stop: u32,
     pub traced: usize,
+    pub untrue: u32,
 }
 
-// Places after what is written: in the output and in the trace.
-pub struct Places {
+// How far a run is after one turn of the loop: the places after what is written, in the output and in the trace, and how many untrue steps were made.
+pub struct Turn {
     pub output: usize,
     pub trace: usize,
+    pub untrue: u32,
 }
 
 // There is no move.
@@ -134,16 +136,18 @@ fn make_told(
     at: usize,
     trace: &mut [u8],
     p: usize,
+    untrue: u32,
     tracing: bool,
-) -> Places
-    requires { ⌜ Telling (now t) shape time r next (now store) × (at + sizeBy (now t) shape time next (now store) ≤ length (now out)) × (p ≤ length (now trace)) × (tracing ≡ true → Room (numbersBy (now t) shape next (moveBy (now t) shape time next (now store))) p (now trace)) × Indexed (now t) shape (now ix) ⌝ }
-    ensures { λ x. ⌜ Made (now (t .entry)) shape time next (now (store .entry)) (now (store .exit)) (now (out .entry)) (now (out .exit)) at (x .output)
+) -> Turn
+    requires { ⌜ Telling (now t) shape time r next (now store) × (at + sizeBy (now t) shape time next (now store) ≤ length (now out)) × (p ≤ length (now trace)) × (tracing ≡ true → Room (numbersBy (now t) shape next (moveBy (now t) shape time next (now store))) p (now trace)) × Indexed (now t) shape (now ix) × (untrue < 4294967295) ⌝ }
+    ensures { λ x. ⌜ Made (now (t .entry)) shape time next (now (store .entry)) (now (store .exit)) (now (out .entry)) (now (out .exit)) at (x .output) untrue (x .untrue)
         × ToldIf tracing (numbersBy (now (t .entry)) shape next (moveBy (now (t .entry)) shape time next (now (store .entry)))) p (now (trace .entry)) (now (trace .exit)) (x .trace) ⌝ }
 {
-    let output = make(t, ix, store, shape, time, r, next, out, at);
-    Places {
-        output,
+    let moved = make(t, ix, store, shape, time, r, next, out, at, untrue);
+    Turn {
+        output: moved.place,
         trace: numbers_if(t, store, shape, next, trace, p, tracing),
+        untrue: moved.untrue,
     }
 }
 
@@ -165,6 +169,7 @@ fn make_moves(
     let mut n: u32 = 0;
     let mut at: usize = 0;
     let mut p: usize = 0;
+    let mut untrue: u32 = 0;
     loop {
         let r = running(store);
         let next = next_move(t, ix, store, shape, r);
@@ -190,12 +195,13 @@ fn make_moves(
                 bytes: at,
                 stop,
                 traced: p,
+                untrue,
             };
         }
         if tracing {
             p = tell(t, ix, store, shape, time, r, next, trace, p);
         }
-        let places = make_told(
+        let turn = make_told(
             t,
             ix,
             store,
@@ -207,10 +213,12 @@ fn make_moves(
             at,
             trace,
             p,
+            untrue,
             tracing,
         );
-        at = places.output;
-        p = places.trace;
+        at = turn.output;
+        p = turn.trace;
+        untrue = turn.untrue;
         n += 1;
     }
 }
@@ -237,6 +245,7 @@ pub fn run_moves(
             bytes: 0,
             stop: 1,
             traced: 0,
+            untrue: 0,
         };
     }
     let mut ix = [0u16; SIZE];

@@ -1,16 +1,19 @@
--- Document 01's "Examples to prove": one table of definition cases. The one claim over it is in Claim.
+-- Document 01's "Examples to prove", and those of the count of untrue steps: one table of definition cases. The one claim over it is in Claim.
 use mathlib.Core.List.{List, [], _∷_, _++_}
 use Prim.Native.Nat.{ℕ, _+_, _*_}
 use lib.IntN.{ℤ, pos, negℤ}
 use lib.ListN.{replicate}
 use Rattle.rules_numbers.specs.Word.{word}
 use Rattle.rules_numbers.specs.Bytes.{wordAt}
-use Rattle.rules_numbers.specs.Clip.{lowest}
-use Rattle.rules_numbers.specs.Operation.{operation}
+use Rattle.rules_numbers.specs.declared.Outcome.{Outcome}
+use Rattle.rules_numbers.specs.Clip.{lowest, highest}
+use Rattle.rules_numbers.specs.Truth.{outcome}
 use Rattle.rules_tables.specs.Judge.{Verdict}
 use Rattle.cases_tables.specs.Worked.{frame, worked, bytes}
-use Rattle.rules_store.specs.Word.{dueFlag, dueTime}
-use Rattle.rules_calls.specs.Public.{Call, load, advance, arrival, run}
+use Rattle.rules_walks.specs.Pick.{pick}
+use Rattle.rules_store.specs.Word.{dueFlag, dueTime, untrue, putUntrue}
+use Rattle.rules_calls.specs.Answer.{untrueOf}
+use Rattle.rules_calls.specs.Public.{Call, load, advance, arrival, run, storeOf, answerOf}
 use Rattle.cases.specs.Script.{stored, answered, printed}
 
 -- ---- the tables of the examples
@@ -45,13 +48,15 @@ tableOf t = bytes (framesIn t)
 
 -- ---- what is asked. Of calls: on which table, with how many words of store (each 7 at first), with how much room for output, after which calls
 pub data Asked : Type 0 where
-  -- what this call answers: refusal, frame, moves, stop number, bytes
+  -- what this call answers: refusal, frame, moves, stop number, bytes, untrue steps
   answer : Table → ℕ → ℕ → List Call → Call → Asked
   -- the record that a run with this budget writes, as words
   recorded : Table → ℕ → ℕ → List Call → ℕ → Asked
   -- due flag and due time of element 1
   due : Table → ℕ → ℕ → List Call → Asked
-  -- the result of an operation on two values, as a word
+  -- the untrue steps that a run with this budget tells, and word 11 after it, where that held so many before
+  counted : Table → ℕ → ℕ → List Call → ℕ → ℕ → Asked
+  -- the result of an operation on two values, as a word, and 1 where it is the true one, else 0
   result : ℕ → ℤ → ℤ → Asked
 
 pub record Case : Type 0 where
@@ -65,12 +70,20 @@ gives a w = record { asked = a; want = w }
 abbrev pub wordsOf : List ℕ → List ℕ
 wordsOf b = wordAt b 0 ∷ wordAt b 4 ∷ wordAt b 8 ∷ wordAt b 12 ∷ wordAt b 16 ∷ []
 
+-- the untrue steps that a call tells, and the store's count of them after it
+abbrev countedBy : Verdict → List ℕ → ℕ → List ℕ → Call → List ℕ
+countedBy v T room s c = untrueOf (answerOf v T room s c) ∷ untrue (storeOf v T room s c) ∷ []
+
+abbrev resultWords : Outcome → List ℕ
+resultWords o = word (o .result) ∷ pick (o .«is_true») 1 0 ∷ []
+
 -- what the definitions tell, by the verdict on each table
 abbrev pub tells : (Table → Verdict) → Asked → List ℕ
 tells v (answer t words room cs c) = answered (v t) (tableOf t) room (replicate words 7) cs c
 tells v (recorded t words room cs b) = wordsOf (printed (tableOf t) room (stored (v t) (tableOf t) room (replicate words 7) cs) b)
 tells v (due t words room cs) = let s = stored (v t) (tableOf t) room (replicate words 7) cs in dueFlag s 1 ∷ dueTime s 1 ∷ []
-tells v (result op b c) = word (operation op b c (pos 0)) ∷ []
+tells v (counted t words room cs n b) = countedBy (v t) (tableOf t) room (putUntrue n (stored (v t) (tableOf t) room (replicate words 7) cs)) (run b)
+tells v (result op b c) = resultWords (outcome op b c (pos 0))
 
 -- ---- the calls of the examples
 -- the worked session before its arrival, and before its run
@@ -80,6 +93,10 @@ before = load ∷ advance 10 ∷ []
 abbrev ready : List Call
 ready = load ∷ advance 10 ∷ arrival 0 7 (21 ∷ []) ∷ []
 
+-- the same with a second arrival, whose value cannot be doubled
+abbrev clipping : List Call
+clipping = load ∷ advance 10 ∷ arrival 0 7 (21 ∷ []) ∷ arrival 0 8 (1073741824 ∷ []) ∷ []
+
 -- START taken at 100; and again at 120
 abbrev started : List Call
 started = load ∷ advance 100 ∷ arrival 0 100 [] ∷ run 100 ∷ []
@@ -88,13 +105,13 @@ abbrev again : List Call
 again = load ∷ advance 100 ∷ arrival 0 100 [] ∷ run 100 ∷ advance 120 ∷ arrival 0 120 [] ∷ run 100 ∷ []
 
 abbrev accepts : List ℕ
-accepts = 0 ∷ 0 ∷ 0 ∷ 0 ∷ 0 ∷ []
+accepts = 0 ∷ 0 ∷ 0 ∷ 0 ∷ 0 ∷ 0 ∷ []
 
 abbrev refuses : ℕ → ℕ → List ℕ
-refuses q f = q ∷ f ∷ 0 ∷ 0 ∷ 0 ∷ []
+refuses q f = q ∷ f ∷ 0 ∷ 0 ∷ 0 ∷ 0 ∷ []
 
-abbrev runs : ℕ → ℕ → ℕ → List ℕ
-runs moves stop bytes = 0 ∷ 0 ∷ moves ∷ stop ∷ bytes ∷ []
+abbrev runs : ℕ → ℕ → ℕ → ℕ → List ℕ
+runs moves stop bytes untrues = 0 ∷ 0 ∷ moves ∷ stop ∷ bytes ∷ untrues ∷ []
 
 abbrev minus : ℕ → ℤ
 minus n = negℤ (pos n)
@@ -106,16 +123,16 @@ cases =
     gives (answer doubler 40 4096 [] load) accepts ∷
     gives (answer doubler 40 4096 (load ∷ []) (advance 10)) accepts ∷
     gives (answer doubler 40 4096 before (arrival 0 7 (21 ∷ []))) accepts ∷
-    gives (answer doubler 40 4096 ready (run 100)) (runs 9 1 20) ∷
+    gives (answer doubler 40 4096 ready (run 100)) (runs 9 1 20 0) ∷
     gives (recorded doubler 40 4096 ready 100) ((2 * 65536 + 1) ∷ 7 ∷ 10 ∷ 10 ∷ 42 ∷ []) ∷
     -- "its load at 38 words refused 5, at 39 accepted"
     gives (answer doubler 38 4096 [] load) (refuses 5 0) ∷
     gives (answer doubler 39 4096 [] load) accepts ∷
     -- "budget 8 stops with 2, 9 with 1"
-    gives (answer doubler 39 4096 ready (run 8)) (runs 8 2 0) ∷
-    gives (answer doubler 39 4096 ready (run 9)) (runs 9 1 20) ∷
+    gives (answer doubler 39 4096 ready (run 8)) (runs 8 2 0 0) ∷
+    gives (answer doubler 39 4096 ready (run 9)) (runs 9 1 20 0) ∷
     -- "an output of 19 bytes stops with 3 after 8 moves"
-    gives (answer doubler 39 19 ready (run 100)) (runs 8 3 0) ∷
+    gives (answer doubler 39 19 ready (run 100)) (runs 8 3 0 0) ∷
     -- "birth 11 at now 10 refused 10, birth 10 accepted"
     gives (answer doubler 39 4096 before (arrival 0 11 (21 ∷ []))) (refuses 10 0) ∷
     gives (answer doubler 39 4096 before (arrival 0 10 (21 ∷ []))) accepts ∷
@@ -127,8 +144,18 @@ cases =
     gives (answer delayed 40 4096 started (advance 151)) (refuses 8 0) ∷
     -- "a second START at 120 moves due to 170"
     gives (due delayed 40 4096 again) (1 ∷ 170 ∷ []) ∷
-    -- "the two results 2147483647 above": negating the lowest number, and dividing it by -1
-    gives (result 3 lowest (pos 0)) (2147483647 ∷ []) ∷
-    gives (result 5 lowest (minus 1)) (2147483647 ∷ []) ∷
-    -- "-7 divided by 2 is -3"
-    gives (result 5 (minus 7) (pos 2)) (word (minus 3) ∷ []) ∷ []
+    -- "the two results 2147483647 above": negating the lowest number, and dividing it by -1; neither is the true one
+    gives (result 3 lowest (pos 0)) (2147483647 ∷ 0 ∷ []) ∷
+    gives (result 5 lowest (minus 1)) (2147483647 ∷ 0 ∷ []) ∷
+    -- "-7 divided by 2 is -3", which is true
+    gives (result 5 (minus 7) (pos 2)) (word (minus 3) ∷ 1 ∷ []) ∷
+    -- "a clipped result and a division by zero are not"; a result at an end of the range may be true
+    gives (result 1 highest (pos 1)) (2147483647 ∷ 0 ∷ []) ∷
+    gives (result 1 (pos 2147483646) (pos 1)) (2147483647 ∷ 1 ∷ []) ∷
+    gives (result 5 (pos 0) (pos 0)) (0 ∷ 0 ∷ []) ∷
+    -- "The answer of run tells how many it made": 1073741824 is doubled
+    gives (answer doubler 39 4096 clipping (run 100)) (runs 9 1 20 1) ∷
+    -- "Word 11 counts untrue steps since load and stops at 4,294,967,295."
+    gives (counted doubler 39 4096 clipping 0 100) (1 ∷ 1 ∷ []) ∷
+    gives (counted doubler 39 4096 clipping 4294967294 100) (1 ∷ 4294967295 ∷ []) ∷
+    gives (counted doubler 39 4096 clipping 4294967295 100) (1 ∷ 4294967295 ∷ []) ∷ []

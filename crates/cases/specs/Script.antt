@@ -5,12 +5,12 @@ use Rattle.rules_tables.specs.Judge.{Verdict, shapeOf}
 use Rattle.rules_store.specs.Word.{nowOf}
 use Rattle.rules_calls.specs.Run.{bytes}
 use Rattle.rules_calls.specs.declared.Answer.{Answer}
-use Rattle.rules_calls.specs.Answer.{numberOf, frameOf, movesOf, bytesOf, stopOf}
+use Rattle.rules_calls.specs.Answer.{numberOf, frameOf, movesOf, bytesOf, stopOf, untrueOf}
 use Rattle.rules_calls.specs.Public.{Call, storeOf, answerOf, runMoves}
 
--- refusal, frame, moves, stop number, bytes
+-- refusal, frame, moves, stop number, bytes, untrue steps
 abbrev pub told : Answer → List ℕ
-told a = numberOf a ∷ frameOf a ∷ movesOf a ∷ stopOf a ∷ bytesOf a ∷ []
+told a = numberOf a ∷ frameOf a ∷ movesOf a ∷ stopOf a ∷ bytesOf a ∷ untrueOf a ∷ []
 
 -- the store after a sequence of calls
 unfoldable pub stored : Verdict → List ℕ → ℕ → List ℕ → List Call → List ℕ

@@ -5,7 +5,7 @@ use lib.ListN.{getD, length}
 use Rattle.rules_numbers.specs.Word.{word}
 use Rattle.rules_numbers.specs.Bytes.{halfAt}
 use Rattle.rules_calls.specs.Public.{Call as «CallOf», load, advance, arrival, run}
-use Rattle.cases.specs.Cases.{Table, doubler, repeated, delayed, framesIn, Asked, answer, recorded, due, result, Case, cases}
+use Rattle.cases.specs.Cases.{Table, doubler, repeated, delayed, framesIn, Asked, answer, recorded, due, counted, result, Case, cases}
 use Rattle.cases_main.specs.declared.data.Frame.{Frame}
 use Rattle.cases_main.specs.declared.data.Call.{Call}
 use Rattle.cases_main.specs.declared.data.Row.{Row}
@@ -38,6 +38,7 @@ calls =
     (load ∷
     advance 10 ∷
     arrival 0 7 (21 ∷ []) ∷
+    arrival 0 8 (1073741824 ∷ []) ∷
     load ∷ advance 100 ∷ arrival 0 100 [] ∷ run 100 ∷ advance 120 ∷ arrival 0 120 [] ∷ run 100 ∷ [])
 
 -- ---- rows
@@ -50,27 +51,28 @@ asTable delayed = 2
 abbrev first : Table → ℕ
 first doubler = 0
 first repeated = 0
-first delayed = 3
+first delayed = 4
 
 -- of a call and what must come out
 abbrev row : ℕ → ℕ → ℕ → ℕ → ℕ → ℕ → Call → List ℕ → Row
 row asked table words room from to c w =
-    (asked, table, words, room, from, to, c .0, c .1, c .2, getD w 0 0, getD w 1 0, getD w 2 0, getD w 3 0, getD w 4 0)
+    (asked, table, words, room, from, to, c .0, c .1, c .2, getD w 0 0, getD w 1 0, getD w 2 0, getD w 3 0, getD w 4 0, getD w 5 0)
 
 abbrev asRow : Asked → List ℕ → Row
 asRow (answer t words room cs c) w = row 0 (asTable t) words room (first t) (first t + length cs) (asCall c) w
 asRow (recorded t words room cs b) w = row 1 (asTable t) words room (first t) (first t + length cs) (asCall (run b)) w
 asRow (due t words room cs) w = row 2 (asTable t) words room (first t) (first t + length cs) noCall w
-asRow (result op b c) w = row 3 0 0 0 0 0 (op, word b, word c) w
+asRow (counted t words room cs n b) w = row 3 (asTable t) words room (first t) (first t + length cs) (6, b, n) w
+asRow (result op b c) w = row 4 0 0 0 0 0 (op, word b, word c) w
 
 abbrev pub rows : List Row
 rows = map (λ (k : Case). asRow (k .asked) (k .want)) cases
 
 abbrev pub noRow : Row
-noRow = (0, 0, 0, 0, 0, 0, 0, 0, 0, 0, 0, 0, 0, 0)
+noRow = (0, 0, 0, 0, 0, 0, 0, 0, 0, 0, 0, 0, 0, 0, 0)
 
 -- ---- a row that fits the program's buffers
 pub record Fits (r : Row) : Type 0 where
   pub words : r .2 ≤ 40
   pub room : r .3 ≤ 4096
-  pub last : r .5 ≤ 10
+  pub last : r .5 ≤ 11

@@ -4,9 +4,9 @@ ghost use mathlib.Core.Path.{_≡_};
 ghost use lib.ListN.{length};
 ghost use Rattle.cases_main.specs.Rows.{Fits};
 use crate::data::Call;
-use crate::data::Five;
 use crate::data::Frame;
 use crate::data::Row;
+use crate::data::Six;
 use crate::data::call_at;
 use crate::data::frame_at;
 use calls::advance;
@@ -14,10 +14,13 @@ use calls::arrival;
 use calls::load;
 use calls::run;
 use numbers::bytes::word_at;
-use numbers::operation::operate_words;
+use numbers::operation::outcome_words;
+use numbers::word::to_word;
 use rules_calls::Answer;
 use store_words::word::due_flag;
 use store_words::word::due_time;
+use store_words::word::put_untrue;
+use store_words::word::untrue_count;
 
 // ---- The tables
 
@@ -62,6 +65,12 @@ fn tables() -> [u8; 468]
 
 // ---- The calls
 
+// A run where word 11 holds the call's value.
+fn run_from(t: &[u8], store: &mut [u32], out: &mut [u8], call: Call) -> Answer {
+    put_untrue(store, call.2);
+    run(t, store, call.1, out)
+}
+
 // Makes a call. Where there is none to make, the answer is still that of the call before.
 fn make(t: &[u8], store: &mut [u32], out: &mut [u8], call: Call, before: Answer) -> Answer {
     let value = [call.2; 1];
@@ -72,7 +81,8 @@ fn make(t: &[u8], store: &mut [u32], out: &mut [u8], call: Call, before: Answer)
         2 => advance(t, store, call.1),
         3 => arrival(t, store, 0, call.1, &value[..0]),
         4 => arrival(t, store, 0, call.1, &value),
-        _ => run(t, store, call.1, out),
+        5 => run(t, store, call.1, out),
+        _ => run_from(t, store, out, call),
     }
 }
 
@@ -85,7 +95,7 @@ fn make_all(
     to: usize,
     own: Call,
 ) -> Answer
-    requires { ⌜ to ≤ 10 ⌝ }
+    requires { ⌜ to ≤ 11 ⌝ }
 {
     let mut i = from;
     let mut answer = Answer::Done;
@@ -98,41 +108,62 @@ fn make_all(
 
 // ---- What is asked
 
-// Refusal, frame, moves, stop number, bytes.
-fn answered(answer: Answer) -> Five {
-    Five(
+// Refusal, frame, moves, stop number, bytes, untrue steps.
+fn answered(answer: Answer) -> Six {
+    Six(
         answer.number() as u64,
         answer.frame() as u64,
         answer.moves() as u64,
         answer.stop() as u64,
         answer.bytes() as u64,
+        answer.untrue() as u64,
     )
 }
 
 // The first record of the output: element and event input, birth, last update, now, a value.
-fn recorded(out: &[u8; 4096]) -> Five {
-    Five(
+fn recorded(out: &[u8; 4096]) -> Six {
+    Six(
         word_at(out, 0) as u64,
         word_at(out, 4) as u64,
         word_at(out, 8) as u64,
         word_at(out, 12) as u64,
         word_at(out, 16) as u64,
+        0,
     )
 }
 
 // Due flag and due time of element 1.
-fn due(store: &[u32; 40]) -> Five {
-    Five(
+fn due(store: &[u32; 40]) -> Six {
+    Six(
         due_flag(store, 1) as u64,
         due_time(store, 1) as u64,
         0,
         0,
         0,
+        0,
     )
 }
 
+// The untrue steps that a run tells, and word 11 after it.
+fn counted(answer: Answer, store: &[u32; 40]) -> Six {
+    Six(
+        answer.untrue() as u64,
+        untrue_count(store) as u64,
+        0,
+        0,
+        0,
+        0,
+    )
+}
+
+// The result of an operation, and 1 where it is the true one.
+fn result(op: usize, b: u32, c: u32) -> Six {
+    let told = outcome_words(op, b, c, 0);
+    Six(to_word(told.result) as u64, told.is_true as u64, 0, 0, 0, 0)
+}
+
 // What comes out of a case on its table.
-fn outcome_on(t: &[u8], row: Row) -> Five
+fn outcome_on(t: &[u8], row: Row) -> Six
     requires { ⌜ Fits row ⌝ }
 {
     let mut store = [7u32; 40];
@@ -151,16 +182,17 @@ fn outcome_on(t: &[u8], row: Row) -> Five
     match asked {
         0 => answered(answer),
         1 => recorded(&out),
-        _ => due(&store),
+        2 => due(&store),
+        _ => counted(answer, &store),
     }
 }
 
 // What comes out of a case.
-pub fn outcome(row: Row) -> Five
+pub fn outcome(row: Row) -> Six
     requires { ⌜ Fits row ⌝ }
 {
-    if row.0 == 3 {
-        return Five(operate_words(row.6, row.7, row.8, 0) as u64, 0, 0, 0, 0);
+    if row.0 == 4 {
+        return result(row.6, row.7, row.8);
     }
     let t = tables();
     let table = row.1;

@@ -50,15 +50,16 @@ const FRAMES: [Frame; 39] = [
     Frame(10, 0, 2, 2, 0, 0, 0),
 ];
 
-// What is called (0 nothing, 1 load, 2 advance, 3 an arrival of event 0 with no value, 4 one with a value, 5 run), its time, birth or budget, and
-// the value.
+// What is called (0 nothing, 1 load, 2 advance, 3 an arrival of event 0 with no value, 4 one with a value, 5 run, 6 run where word 11 holds the value), its
+// time, birth or budget, and the value.
 pub struct Call(pub usize, pub u32, pub u32);
 
-// The calls before a case's own: three on the worked table, seven on the delay's.
-const CALLS: [Call; 10] = [
+// The calls before a case's own: four on the worked table, seven on the delay's.
+const CALLS: [Call; 11] = [
     Call(1, 0, 0),
     Call(2, 10, 0),
     Call(4, 7, 21),
+    Call(4, 8, 1073741824),
     Call(1, 0, 0),
     Call(2, 100, 0),
     Call(3, 100, 0),
@@ -68,12 +69,13 @@ const CALLS: [Call; 10] = [
     Call(5, 100, 0),
 ];
 
-// What comes out of a case: the five numbers of an answer (refusal, frame, moves, stop number, bytes), or up to five words, and zeros.
-pub struct Five(pub u64, pub u64, pub u64, pub u64, pub u64);
+// What comes out of a case: the six numbers of an answer (refusal, frame, moves, stop number, bytes, untrue steps), or up to five words, and zeros.
+pub struct Six(pub u64, pub u64, pub u64, pub u64, pub u64, pub u64);
 
-// What is asked (0 the answer of the case's own call, 1 the record that it wrote, 2 due flag and time of element 1, 3 the result of an operation),
+// What is asked (0 the answer of the case's own call, 1 the record that it wrote, 2 due flag and time of element 1, 3 the untrue steps that it tells and word
+// 11, 4 the result of an operation and whether it is true),
 // the table (0 the worked one, 1 with its last frame twice, 2 the delay's), the words of the store, the bytes of output, from which to which of
-// CALLS come before; the case's own call, or the operation with its two words; and the five numbers that must come out.
+// CALLS come before; the case's own call, or the operation with its two words; and the six numbers that must come out.
 pub struct Row(
     pub usize,
     pub usize,
@@ -89,29 +91,62 @@ pub struct Row(
     pub u64,
     pub u64,
     pub u64,
+    pub u64,
 );
 
-const ROWS: [Row; 20] = [
-    Row(0, 0, 40, 4096, 0, 0, 1, 0, 0, 0, 0, 0, 0, 0),
-    Row(0, 0, 40, 4096, 0, 1, 2, 10, 0, 0, 0, 0, 0, 0),
-    Row(0, 0, 40, 4096, 0, 2, 4, 7, 21, 0, 0, 0, 0, 0),
-    Row(0, 0, 40, 4096, 0, 3, 5, 100, 0, 0, 0, 9, 1, 20),
-    Row(1, 0, 40, 4096, 0, 3, 5, 100, 0, 0x0002_0001, 7, 10, 10, 42),
-    Row(0, 0, 38, 4096, 0, 0, 1, 0, 0, 5, 0, 0, 0, 0),
-    Row(0, 0, 39, 4096, 0, 0, 1, 0, 0, 0, 0, 0, 0, 0),
-    Row(0, 0, 39, 4096, 0, 3, 5, 8, 0, 0, 0, 8, 2, 0),
-    Row(0, 0, 39, 4096, 0, 3, 5, 9, 0, 0, 0, 9, 1, 20),
-    Row(0, 0, 39, 19, 0, 3, 5, 100, 0, 0, 0, 8, 3, 0),
-    Row(0, 0, 39, 4096, 0, 2, 4, 11, 21, 10, 0, 0, 0, 0),
-    Row(0, 0, 39, 4096, 0, 2, 4, 10, 21, 0, 0, 0, 0, 0),
-    Row(0, 1, 39, 4096, 0, 0, 1, 0, 0, 4, 25, 0, 0, 0),
-    Row(2, 2, 40, 4096, 3, 7, 0, 0, 0, 1, 150, 0, 0, 0),
-    Row(0, 2, 40, 4096, 3, 7, 2, 150, 0, 0, 0, 0, 0, 0),
-    Row(0, 2, 40, 4096, 3, 7, 2, 151, 0, 8, 0, 0, 0, 0),
-    Row(2, 2, 40, 4096, 3, 10, 0, 0, 0, 1, 170, 0, 0, 0),
-    Row(3, 0, 0, 0, 0, 0, 3, 0x8000_0000, 0, 0x7fff_ffff, 0, 0, 0, 0),
+const ROWS: [Row; 27] = [
+    Row(0, 0, 40, 4096, 0, 0, 1, 0, 0, 0, 0, 0, 0, 0, 0),
+    Row(0, 0, 40, 4096, 0, 1, 2, 10, 0, 0, 0, 0, 0, 0, 0),
+    Row(0, 0, 40, 4096, 0, 2, 4, 7, 21, 0, 0, 0, 0, 0, 0),
+    Row(0, 0, 40, 4096, 0, 3, 5, 100, 0, 0, 0, 9, 1, 20, 0),
     Row(
+        1,
+        0,
+        40,
+        4096,
+        0,
         3,
+        5,
+        100,
+        0,
+        0x0002_0001,
+        7,
+        10,
+        10,
+        42,
+        0,
+    ),
+    Row(0, 0, 38, 4096, 0, 0, 1, 0, 0, 5, 0, 0, 0, 0, 0),
+    Row(0, 0, 39, 4096, 0, 0, 1, 0, 0, 0, 0, 0, 0, 0, 0),
+    Row(0, 0, 39, 4096, 0, 3, 5, 8, 0, 0, 0, 8, 2, 0, 0),
+    Row(0, 0, 39, 4096, 0, 3, 5, 9, 0, 0, 0, 9, 1, 20, 0),
+    Row(0, 0, 39, 19, 0, 3, 5, 100, 0, 0, 0, 8, 3, 0, 0),
+    Row(0, 0, 39, 4096, 0, 2, 4, 11, 21, 10, 0, 0, 0, 0, 0),
+    Row(0, 0, 39, 4096, 0, 2, 4, 10, 21, 0, 0, 0, 0, 0, 0),
+    Row(0, 1, 39, 4096, 0, 0, 1, 0, 0, 4, 25, 0, 0, 0, 0),
+    Row(2, 2, 40, 4096, 4, 8, 0, 0, 0, 1, 150, 0, 0, 0, 0),
+    Row(0, 2, 40, 4096, 4, 8, 2, 150, 0, 0, 0, 0, 0, 0, 0),
+    Row(0, 2, 40, 4096, 4, 8, 2, 151, 0, 8, 0, 0, 0, 0, 0),
+    Row(2, 2, 40, 4096, 4, 11, 0, 0, 0, 1, 170, 0, 0, 0, 0),
+    Row(
+        4,
+        0,
+        0,
+        0,
+        0,
+        0,
+        3,
+        0x8000_0000,
+        0,
+        0x7fff_ffff,
+        0,
+        0,
+        0,
+        0,
+        0,
+    ),
+    Row(
+        4,
         0,
         0,
         0,
@@ -125,19 +160,107 @@ const ROWS: [Row; 20] = [
         0,
         0,
         0,
+        0,
     ),
-    Row(3, 0, 0, 0, 0, 0, 5, 0xffff_fff9, 2, 0xffff_fffd, 0, 0, 0, 0),
+    Row(
+        4,
+        0,
+        0,
+        0,
+        0,
+        0,
+        5,
+        0xffff_fff9,
+        2,
+        0xffff_fffd,
+        1,
+        0,
+        0,
+        0,
+        0,
+    ),
+    Row(
+        4,
+        0,
+        0,
+        0,
+        0,
+        0,
+        1,
+        0x7fff_ffff,
+        1,
+        0x7fff_ffff,
+        0,
+        0,
+        0,
+        0,
+        0,
+    ),
+    Row(
+        4,
+        0,
+        0,
+        0,
+        0,
+        0,
+        1,
+        0x7fff_fffe,
+        1,
+        0x7fff_ffff,
+        1,
+        0,
+        0,
+        0,
+        0,
+    ),
+    Row(4, 0, 0, 0, 0, 0, 5, 0, 0, 0, 0, 0, 0, 0, 0),
+    Row(0, 0, 39, 4096, 0, 4, 5, 100, 0, 0, 0, 9, 1, 20, 1),
+    Row(3, 0, 39, 4096, 0, 4, 6, 100, 0, 1, 1, 0, 0, 0, 0),
+    Row(
+        3,
+        0,
+        39,
+        4096,
+        0,
+        4,
+        6,
+        100,
+        0xffff_fffe,
+        1,
+        0xffff_ffff,
+        0,
+        0,
+        0,
+        0,
+    ),
+    Row(
+        3,
+        0,
+        39,
+        4096,
+        0,
+        4,
+        6,
+        100,
+        0xffff_ffff,
+        1,
+        0xffff_ffff,
+        0,
+        0,
+        0,
+        0,
+    ),
 ];
 
 pub fn row_at(i: usize) -> Row
-    requires { ⌜ i < 20 ⌝ }
+    requires { ⌜ i < 27 ⌝ }
     ensures { λ r. ⌜ r ≡ getD rows i noRow ⌝ }
 {
     ROWS[i]
 }
 
 pub fn call_at(i: usize) -> Call
-    requires { ⌜ i < 10 ⌝ }
+    requires { ⌜ i < 11 ⌝ }
     ensures { λ r. ⌜ r ≡ getD calls i noCall ⌝ }
 {
     CALLS[i]

@@ -1,6 +1,6 @@
-// Runs the definition cases of document 01 (crate `cases`) through the public calls, and says of each whether it comes out right.
+// Runs the definition cases (crate `cases`) through the public calls, and says of each whether it comes out right.
 ghost use Prim.Native.Nat.{_≤_};
-use data::Five;
+use data::Six;
 use libc::STDOUT_FILENO;
 
 mod ask;
@@ -33,6 +33,18 @@ fn bound_title(i: usize) {
     }
 }
 
+fn untrue_title(i: usize) {
+    match i {
+        20 => say(b"2147483647 + 1"),
+        21 => say(b"2147483646 + 1"),
+        22 => say(b"0 divided by 0"),
+        23 => say(b"run with an untrue step"),
+        24 => say(b"word 11 after it, from 0"),
+        25 => say(b"word 11 after it, from 4294967294"),
+        _ => say(b"word 11 after it, from 4294967295"),
+    }
+}
+
 fn title(i: usize) {
     match i {
         0..=4 => session_title(i),
@@ -43,12 +55,13 @@ fn title(i: usize) {
         16 => say(b"a second START at 120: due"),
         17 => say(b"-2147483648 negated"),
         18 => say(b"-2147483648 divided by -1"),
-        _ => say(b"-7 divided by 2"),
+        19 => say(b"-7 divided by 2"),
+        _ => untrue_title(i),
     }
 }
 
-fn same(a: Five, b: Five) -> bool {
-    a.0 == b.0 && a.1 == b.1 && a.2 == b.2 && a.3 == b.3 && a.4 == b.4
+fn same(a: Six, b: Six) -> bool {
+    a.0 == b.0 && a.1 == b.1 && a.2 == b.2 && a.3 == b.3 && a.4 == b.4 && a.5 == b.5
 }
 
 fn number(n: u64) {
@@ -57,7 +70,7 @@ fn number(n: u64) {
 }
 
 // Prints a case with the numbers that came out.
-fn tell(i: usize, out: Five, right: bool) {
+fn tell(i: usize, out: Six, right: bool) {
     if right {
         say(b"right ");
     } else {
@@ -68,6 +81,7 @@ fn tell(i: usize, out: Five, right: bool) {
     number(out.2);
     number(out.3);
     number(out.4);
+    number(out.5);
     say(b"  ");
     title(i);
     say(b"\n");
@@ -82,9 +96,9 @@ fn point(right: bool) -> u64
 fn main() {
     let mut points = 0;
     let mut i = 0;
-    while i < 20 {
+    while i < 27 {
         let row = data::row_at(i);
-        let want = Five(row.9, row.10, row.11, row.12, row.13);
+        let want = Six(row.9, row.10, row.11, row.12, row.13, row.14);
         let out = ask::outcome(row);
         let right = same(out, want);
         tell(i, out, right);
@@ -92,5 +106,5 @@ fn main() {
         i += 1;
     }
     io::print_decimal(STDOUT_FILENO, points);
-    say(b" of 20 cases right\n");
+    say(b" of 27 cases right\n");
 }

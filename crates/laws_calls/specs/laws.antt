@@ -3,3 +3,4 @@ pub mod Kept
 pub mod Lawfully
 pub mod Refusals
 pub mod Steps
+pub mod Untrue

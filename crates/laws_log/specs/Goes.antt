@@ -4,7 +4,7 @@ use mathlib.Core.Bool.{Bool, true, false}
 use Prim.Native.Nat.{ℕ, _≤_}
 use Rattle.rules_tables.specs.declared.Shape.{Shape}
 use Rattle.rules_store.specs.Word.{overwritten}
-use Rattle.rules_store.specs.Part.{Part, time, block, count, chart, due, input, sampled as «samples-part», computed, buffered, Leaves}
+use Rattle.rules_store.specs.Part.{Part, time, block, count, untrues, chart, due, input, sampled as «samples-part», computed, buffered, Leaves}
 use Rattle.rules_log.specs.Log.{Log}
 use Rattle.rules_log.specs.Origin.{Begun}
 use Rattle.laws_log.specs.Holds.{Holds}
@@ -14,6 +14,7 @@ abbrev pub still : Part → Bool
 still time = false
 still block = true
 still count = true
+still untrues = true
 still chart = true
 still due = true
 still input = true

@@ -7,7 +7,7 @@ use Rattle.rules_tables.specs.Frame.{flagAt}
 use Rattle.rules_tables.specs.declared.Shape.{Shape}
 use Rattle.rules_tables.specs.Ids.{inputs, variables, links, variableFrame}
 use Rattle.rules_store.specs.Word.{nowOf, runningOf, waiting, birthOf, lastUpdate, value, buffer}
-use Rattle.rules_store.specs.Part.{Part, block, chart, due, just, also, computed}
+use Rattle.rules_store.specs.Part.{Part, block, untrues, chart, due, just, also, computed}
 use Rattle.rules_tables.specs.Lawful.{source, destination}
 use Rattle.rules_store.specs.Formed.{Formed}
 use Rattle.rules_log.specs.Log.{How, begins, goesOn, Log}
@@ -40,9 +40,9 @@ pub record Holds (T : List ℕ) (S : Shape) (B : Begun) (l : Log) (s : List ℕ)
   pub input-law : InputLaw T S B l s
   pub buffer-law : BufferLaw T S B l s
 
--- what a quiet change touches: the running block, a chart state, a due time, values that are no inputs
+-- what a quiet change touches: the running block, the count of untrue steps, a chart state, a due time, values that are no inputs
 abbrev pub quiet : Part → Bool
-quiet = also block (also chart (also due (just computed)))
+quiet = also block (also untrues (also chart (also due (just computed))))
 
 -- ---- the chain of an event that is fired
 abbrev pub chainBy : List ℕ → Shape → Begun → Log → How → Chain

@@ -6,3 +6,4 @@ pub mod Loaded
 pub mod Moves
 pub mod Records
 pub mod Taken
+pub mod Untrue

@@ -4,7 +4,7 @@ ghost use Prim.Native.Nat.{_<_, _≤_};
 ghost use Rattle.rules_tables.specs.Good.{Good};
 ghost use Rattle.rules_tables.specs.Ids.{outputs};
 ghost use Rattle.rules_moves.specs.Carry.{voiceOf};
-ghost use Rattle.rules_moves.specs.Fire.{counted as «countedOf», mark as «markOf», connects, copies, fire as «fireOf»};
+ghost use Rattle.rules_moves.specs.Fire.{mark as «markOf», connects, copies, fire as «fireOf»};
 ghost use Rattle.moves_fire.specs.Carried.{copiesFrom};
 ghost use Rattle.table_index.specs.Index.{Indexed};
 ghost use Rattle.store_words.specs.Small.{Small};
@@ -21,7 +21,7 @@ use store_words::shape::connection_frame;
 use store_words::shape::connections;
 use store_words::shape::link_frame;
 use store_words::shape::links;
-use store_words::word::COUNT_END;
+use store_words::word::counted;
 use store_words::word::overwritten_count;
 use store_words::word::put_buffer;
 use store_words::word::put_input;
@@ -36,16 +36,6 @@ use table_index::read::first_link;
 use table_index::read::next_association;
 use table_index::read::next_connection;
 use table_index::read::next_link;
-
-// The overwritten count after an input with this waiting flag becomes waiting; it stops at its end.
-fn counted(flag: u32, n: u32) -> u32
-    ensures { λ r. ⌜ r ≡ countedOf flag n ⌝ }
-{
-    if flag == 0 {
-        return n;
-    }
-    if n < COUNT_END { n + 1 } else { n }
-}
 
 // Event input i becomes waiting.
 fn mark(store: &mut [u32], shape: Shape, birth: u32, time: u32, i: usize)

@@ -8,8 +8,9 @@ use lib.ListN.{length}
 use borrow.Author.Tests.{eq-eqb, ne-eqb, lt-ltb, le-ltb}
 use Rattle.rules_walks.specs.laws.Choose.{choose-true, choose-false}
 use Rattle.rules_walks.specs.First.{Sought, one, missing}
+use Rattle.rules_numbers.specs.declared.Outcome.{Outcome}
 use Rattle.rules_numbers.specs.Word.{signed, word}
-use Rattle.rules_numbers.specs.Operation.{operation}
+use Rattle.rules_numbers.specs.Truth.{outcome}
 use Rattle.rules_tables.specs.Kind.{none, basic, interface, ofOutput}
 use Rattle.rules_tables.specs.Frame.{flagAt, fieldAt}
 use Rattle.rules_tables.specs.declared.Shape.{Shape}
@@ -24,7 +25,7 @@ use Rattle.table_parts.specs.declared.Found.{Found}
 use Rattle.table_parts.specs.declared.Found.the-variants.{One, Missing}
 use Rattle.table_parts.specs.Found.{foundOf}
 use Rattle.table_parts.specs.laws.Found.{found-one, found-missing}
-use Rattle.store_words.specs.laws.Running.{value-runs}
+use Rattle.store_words.specs.laws.Running.{value-runs, untrue-runs}
 use Rattle.table_index.specs.Index.{Owners}
 use Rattle.rules_moves.specs.Carry.{voice, voiceOf}
 use Rattle.rules_moves.specs.Fire.{fire}
@@ -41,17 +42,26 @@ use Rattle.rules_moves.specs.Record.{putOut}
 use Rattle.moves_take.specs.Received.{Sized, Received}
 use Rattle.rules_moves.specs.declared.Next.{Next}
 use Rattle.rules_moves.specs.declared.Next.the-variants.{Take, Change, Idle, Step, End, Back, Nothing}
-use Rattle.rules_moves.specs.Act.{oneStep, stepMove, eventOf, endMove}
-use Rattle.rules_moves.specs.Next.{eventNext, chartNext, actNext, nextBy, moveBy, writtenBy, sizeBy}
+use Rattle.rules_moves.specs.Act.{stepOutcome, resultPut, untrueStep, countUntrue, oneStep, stepMove, eventOf, endMove}
+use Rattle.rules_moves.specs.Next.{eventNext, chartNext, actNext, nextBy, moveBy, untrueBy, writtenBy, sizeBy}
 use Rattle.moves_next.specs.Made.{Made}
 use Rattle.rules_moves.specs.Means.{Stepping, Ending}
+use Rattle.rules_moves.specs.laws.Moving.{untrue-step-few}
 use Rattle.rules_moves.specs.laws.Next.{answer-means}
 
 -- ---- a step
-pub step-is : (T : List ℕ) (S : Shape) (f age : ℕ) (s s′ : List ℕ) {a b c x y g z : ℕ} → b ≡ fieldAt T f 1 → x ≡ value S s b → c ≡ fieldAt T f 2 → y ≡ value S s c → g ≡ flagAt T f
-    → z ≡ word (operation g (signed x) (signed y) (pos age)) → a ≡ fieldAt T f 0 → s′ ≡ putValue S a z s → s′ ≡ oneStep T S f age s
-unfolding oneStep
-step-is T S f age s s′ b x c y g z a u = rw (← a, ← b, ← c, ← g, ← x, ← y, ← z) u
+-- what its operation tells, by what was read
+pub step-told : (T : List ℕ) (S : Shape) (f age : ℕ) (s : List ℕ) {b c x y g : ℕ} {o : Outcome} → b ≡ fieldAt T f 1 → x ≡ value S s b → c ≡ fieldAt T f 2 → y ≡ value S s c → g ≡ flagAt T f
+    → o ≡ outcome g (signed x) (signed y) (pos age) → o ≡ stepOutcome T S f age s
+unfolding stepOutcome
+step-told T S f age s at-b is-x at-c is-y op told = rw (← at-b, ← at-c, ← op, ← is-x, ← is-y) told
+
+pub step-is : (T : List ℕ) (S : Shape) (f age : ℕ) (s s₁ s′ : List ℕ) {a x u : ℕ} → x ≡ word (stepOutcome T S f age s .result) → u ≡ untrueStep T S f age s → a ≡ fieldAt T f 0
+    → s₁ ≡ putValue S a x s → s′ ≡ countUntrue u s₁ → s′ ≡ oneStep T S f age s
+unfolding oneStep resultPut
+step-is T S f age s s₁ s′ is-x is-u at-a put counted =
+    let p : s₁ ≡ resultPut T S f age s = rw (← at-a, ← is-x) put in
+    counted ∙ (λ i. countUntrue (is-u i) (p i))
 
 pub stepped-on : (T : List ℕ) (S : Shape) (time : ℕ) (r : Running) (j : ℕ) (s s′ : List ℕ) {f ag : ℕ} {s₁ : List ℕ} → f ≡ stepFrame S j → ag ≡ time - r .birth → s₁ ≡ oneStep T S f ag s
     → s′ ≡ putRunning (stepped r) s₁ → s′ ≡ stepMove T S time r j s
@@ -60,10 +70,17 @@ stepped-on T S time r j s s′ {s₁ = s₁} a ag p u =
     let h : s₁ ≡ oneStep T S (stepFrame S j) (time - r .birth) s = rw (a, ag) at p in
     u ∙ ap (putRunning (stepped r)) h
 
+pub stepped-untrue : (T : List ℕ) (S : Shape) (j age : ℕ) (s : List ℕ) {f ag u : ℕ} → f ≡ stepFrame S j → ag ≡ age → u ≡ untrueStep T S f ag s → u ≡ untrueStep T S (stepFrame S j) age s
+stepped-untrue T S j age s a ag e = rw (a, ag) at e
+
+-- one untrue step, or none: the sum fits
+pub untrue-fits : (T : List ℕ) (S : Shape) (f age : ℕ) (s : List ℕ) {x u : ℕ} → x ≡ untrueStep T S f age s → u < 4294967295 → u + x < 4294967296
+untrue-fits T S f age s e h = omega (arith, untrue-step-few T S f age s)
+
 -- the running block is still the one that was read
 pub step-runs : (T : List ℕ) (S : Shape) (f age : ℕ) (s : List ℕ) {s₁ : List ℕ} {r : Running} → s₁ ≡ oneStep T S f age s → r ≡ runningOf s → r ≡ runningOf s₁
-unfolding oneStep
-step-runs T S f age s p e = value-runs S s _ _ p e
+unfolding oneStep resultPut countUntrue
+step-runs T S f age s p e = untrue-runs (resultPut T S f age s) _ p (value-runs S s _ _ refl e)
 
 -- ---- the end of an action
 module _ (T : List ℕ) (S : Shape) (j birth time : ℕ) (s s′ : List ℕ) {o : ℕ} (read : o ≡ fieldAt T (actionFrame S j) 3) where
@@ -179,35 +196,39 @@ module _ (T : List ℕ) (S : Shape) (r : Running) (s : List ℕ) (n : Next) (com
   pub actions-few : n ≡ End j → r .action < 4294967295
   actions-few e = let l = action-few T S (stateOf s) (r .action) j (ending e .found) in let h = few in omega arith
 
-module _ (T : List ℕ) (S : Shape) (time : ℕ) (n : Next) (s o : List ℕ) (at : ℕ) {s′ : List ℕ} where
-  pub made-take : (i : ℕ) {o′ : List ℕ} {p : ℕ} → n ≡ Take i → Received T S i time s s′ o o′ at p → Made T S time n s s′ o o′ at p
-  unfolding moveBy writtenBy sizeBy
-  made-take i e w = rw e (record { store = w .store-is; output = w .output-is; place = w .place-is })
+module _ (T : List ℕ) (S : Shape) (time : ℕ) (n : Next) (s o : List ℕ) (at : ℕ) {s′ : List ℕ} {p u u′ : ℕ} where
+  -- a move that is no step
+  module _ (none : u′ ≡ u) where
+    pub made-take : (i : ℕ) {o′ : List ℕ} {e : ℕ} → n ≡ Take i → p ≡ e → Received T S i time s s′ o o′ at e → Made T S time n s s′ o o′ at p u u′
+    unfolding moveBy untrueBy writtenBy sizeBy
+    made-take i e q w = rw e (record { store = w .store-is; output = w .output-is; place = q ∙ w .place-is; untrue-told = omega (arith, none) })
 
-  pub made-idle : n ≡ Idle → s′ ≡ goIdle s → Made T S time n s s′ o o at at
-  unfolding moveBy writtenBy sizeBy
-  made-idle e u = rw e (record { store = u; output = refl; place = omega arith })
+    module _ (here : p ≡ at) where
+      pub made-idle : n ≡ Idle → s′ ≡ goIdle s → Made T S time n s s′ o o at p u u′
+      unfolding moveBy untrueBy writtenBy sizeBy
+      made-idle e v = rw e (record { store = v; output = refl; place = omega arith; untrue-told = omega (arith, none) })
 
-  pub made-nothing : n ≡ Nothing → s′ ≡ s → Made T S time n s s′ o o at at
-  unfolding moveBy writtenBy sizeBy
-  made-nothing e u = rw e (record { store = u; output = refl; place = omega arith })
+      pub made-nothing : n ≡ Nothing → s′ ≡ s → Made T S time n s s′ o o at p u u′
+      unfolding moveBy untrueBy writtenBy sizeBy
+      made-nothing e v = rw e (record { store = v; output = refl; place = omega arith; untrue-told = omega (arith, none) })
 
-  module _ {r : Running} (read : r ≡ runningOf s) where
-    pub made-change : (j : ℕ) → n ≡ Change j → s′ ≡ change T S (elementOf s) r j s → Made T S time n s s′ o o at at
-    unfolding moveBy writtenBy sizeBy
-    made-change j e u = rw e (record { store = rw (← read) u; output = refl; place = omega arith })
+      module _ {r : Running} (read : r ≡ runningOf s) where
+        pub made-change : (j : ℕ) → n ≡ Change j → s′ ≡ change T S (elementOf s) r j s → Made T S time n s s′ o o at p u u′
+        unfolding moveBy untrueBy writtenBy sizeBy
+        made-change j e v = rw e (record { store = rw (← read) v; output = refl; place = omega arith; untrue-told = omega (arith, none) })
 
-    pub made-step : (j : ℕ) → n ≡ Step j → s′ ≡ stepMove T S time r j s → Made T S time n s s′ o o at at
-    unfolding moveBy writtenBy sizeBy
-    made-step j e u = rw e (record { store = rw (← read) u; output = refl; place = omega arith })
+        pub made-end : (j : ℕ) → n ≡ End j → s′ ≡ endMove T S time (stateOf s) r j s → Made T S time n s s′ o o at p u u′
+        unfolding moveBy untrueBy writtenBy sizeBy
+        made-end j e v = rw e (record { store = rw (← read) v; output = refl; place = omega arith; untrue-told = omega (arith, none) })
 
-    pub made-end : (j : ℕ) → n ≡ End j → s′ ≡ endMove T S time (stateOf s) r j s → Made T S time n s s′ o o at at
-    unfolding moveBy writtenBy sizeBy
-    made-end j e u = rw e (record { store = rw (← read) u; output = refl; place = omega arith })
+        pub made-back : n ≡ Back → s′ ≡ putRunning (charting r) s → Made T S time n s s′ o o at p u u′
+        unfolding moveBy untrueBy writtenBy sizeBy
+        made-back e v = rw e (record { store = rw (← read) v; output = refl; place = omega arith; untrue-told = omega (arith, none) })
 
-    pub made-back : n ≡ Back → s′ ≡ putRunning (charting r) s → Made T S time n s s′ o o at at
-    unfolding moveBy writtenBy sizeBy
-    made-back e u = rw e (record { store = rw (← read) u; output = refl; place = omega arith })
+  pub made-step : {r : Running} → r ≡ runningOf s → (j : ℕ) → n ≡ Step j → s′ ≡ stepMove T S time r j s → p ≡ at → {x : ℕ} → u′ ≡ u + x → x ≡ untrueStep T S (stepFrame S j) (time - r .birth) s
+      → Made T S time n s s′ o o at p u u′
+  unfolding moveBy untrueBy writtenBy sizeBy
+  made-step read j e v here sum told = rw e (record { store = rw (← read) v; output = refl; place = omega arith; untrue-told = rw (← read, ← told) sum })
 
 -- there is room for what an event writes
 pub room-for : (T : List ℕ) (S : Shape) (time : ℕ) (n : Next) (s : List ℕ) (at room i : ℕ) → n ≡ Take i → at + sizeBy T S time n s ≤ room

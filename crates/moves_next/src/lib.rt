@@ -47,6 +47,18 @@ use table_index::actions::action_of;
 use table_index::index::SIZE;
 use table_parts::Found;
 
+// How far a run is: the place after what was written to the output, and how many untrue steps were made.
+pub struct Moved {
+    pub place: usize,
+    pub untrue: u32,
+}
+
+fn reached(place: usize, untrue: u32) -> Moved
+    ensures { λ m. ⌜ (m .place ≡ place) × (m .untrue ≡ untrue) ⌝ }
+{
+    Moved { place, untrue }
+}
+
 // Idle: the least waiting event.
 fn next_event(t: &[u8], store: &[u32], shape: Shape) -> Next
     requires { ⌜ Good (now t) shape × (need shape ≤ length (now store)) ⌝ }
@@ -152,7 +164,8 @@ fn take_event(
     receive(t, ix, store, shape, sort, el, i, born, last, time, out, at)
 }
 
-// Makes the move n that comes next, r being the running block; what it writes goes to the output at `at`. The answer is the place after it.
+// Makes the move n that comes next, r being the running block; what it writes goes to the output at `at`. So many untrue steps were made before. Both numbers
+// are handed on: only a step changes the second, so no other move has to look at it.
 pub fn make(
     t: &[u8],
     ix: &[u16; SIZE],
@@ -163,32 +176,30 @@ pub fn make(
     n: Next,
     out: &mut [u8],
     at: usize,
-) -> usize
-    requires { ⌜ Good (now t) shape × (r ≡ runningOf (now store)) × (n ≡ nextBy (now t) shape r (now store)) × (time < 2147483648) × (at + sizeBy (now t) shape time n (now store) ≤ length (now out)) × Indexed (now t) shape (now ix) × (need shape ≤ length (now store)) ⌝ }
-    ensures { λ p. ⌜ Made (now (t .entry)) shape time n (now (store .entry)) (now (store .exit)) (now (out .entry)) (now (out .exit)) at p ⌝ }
+    untrue: u32,
+) -> Moved
+    requires { ⌜ Good (now t) shape × (r ≡ runningOf (now store)) × (n ≡ nextBy (now t) shape r (now store)) × (time < 2147483648) × (at + sizeBy (now t) shape time n (now store) ≤ length (now out)) × Indexed (now t) shape (now ix) × (need shape ≤ length (now store)) × (untrue < 4294967295) ⌝ }
+    ensures { λ m. ⌜ Made (now (t .entry)) shape time n (now (store .entry)) (now (store .exit)) (now (out .entry)) (now (out .exit)) at (m .place) untrue (m .untrue) ⌝ }
 {
     match n {
-        Next::Take(i) => take_event(t, ix, store, shape, time, i, out, at),
+        Next::Take(i) => reached(take_event(t, ix, store, shape, time, i, out, at), untrue),
         Next::Change(j) => {
             change(t, ix, store, shape, r, j);
-            at
+            reached(at, untrue)
         }
         Next::Idle => {
             go_idle(store);
-            at
+            reached(at, untrue)
         }
-        Next::Step(j) => {
-            step(t, store, shape, time, r, j);
-            at
-        }
+        Next::Step(j) => reached(at, untrue + step(t, store, shape, time, r, j)),
         Next::End(j) => {
             end(t, ix, store, shape, time, r, j);
-            at
+            reached(at, untrue)
         }
         Next::Back => {
             put_charting(store, r);
-            at
+            reached(at, untrue)
         }
-        Next::Nothing => at,
+        Next::Nothing => reached(at, untrue),
     }
 }

@@ -4,14 +4,14 @@ use mathlib.Core.Path.{_≡_, refl, sym, ap, _∙_}
 use mathlib.Core.List.{List, [], _∷_, _++_}
 use mathlib.Core.Bool.{true, false}
 use native.Mathlib.Omega.{arith}
-use lib.Dec.{eqb}
 use lib.IntN.{pos}
+use lib.Dec.{eqb}
 use borrow.Author.Tests.{eq-eqb, ne-eqb}
 use Rattle.rules_walks.specs.Choose.{choose}
 use Rattle.rules_walks.specs.laws.Choose.{choose-true, choose-false}
 use Rattle.rules_walks.specs.First.{one, missing}
 use Rattle.rules_numbers.specs.Word.{signed, word}
-use Rattle.rules_numbers.specs.Operation.{operation}
+use Rattle.rules_numbers.specs.Truth.{outcome}
 use Rattle.rules_tables.specs.Kind.{none, internal}
 use Rattle.rules_tables.specs.Frame.{flagAt, fieldAt}
 use Rattle.rules_tables.specs.declared.Shape.{Shape}
@@ -27,7 +27,7 @@ use Rattle.table_parts.specs.Found.{foundOf}
 use Rattle.table_parts.specs.laws.Found.{found-one, found-missing}
 use Rattle.rules_moves.specs.Partner.{inputOwner, partnerOutput}
 use Rattle.rules_moves.specs.Chart.{elementOf}
-use Rattle.rules_moves.specs.Act.{eventOf}
+use Rattle.rules_moves.specs.Act.{stepOutcome, eventOf}
 use Rattle.rules_moves.specs.declared.Next.{Next}
 use Rattle.rules_moves.specs.declared.Next.the-variants.{Take, Change, Idle, Step, End, Back, Nothing}
 use Rattle.rules_traces.specs.declared.Entry.{Entry}
@@ -90,9 +90,10 @@ module _ (T : List ℕ) (S : Shape) where
     unfolding changeEntries
     change-is j p q r u = rw (q, u, p, r)
 
+    -- what the operation gives, by what was read
     pub result-of : (f age : ℕ) {b c v w g x : ℕ} → v ≡ fieldAt T f 1 → b ≡ value S s v → w ≡ fieldAt T f 2 → c ≡ value S s w → g ≡ flagAt T f
-        → x ≡ word (operation g (signed b) (signed c) (pos age)) → x ≡ resultOf T S f age s
-    unfolding resultOf
+        → x ≡ word (outcome g (signed b) (signed c) (pos age) .result) → x ≡ resultOf T S f age s
+    unfolding resultOf stepOutcome
     result-of f age p q r u w h = rw (h, w, q, u, p, r)
 
     pub result-is : (v x : ℕ) {f g k el b : ℕ} → f ≡ variableFrame S v → g ≡ flagAt T f → k ≡ resultKind g → el ≡ fieldAt T f 0 → b ≡ value S s v

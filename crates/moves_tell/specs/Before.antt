@@ -2,11 +2,9 @@
 use Prim.Native.Nat.{ℕ, _-_}
 use mathlib.Core.List.{List, [], _∷_, _++_}
 use lib.Dec.{eqb}
-use lib.IntN.{pos}
 use Rattle.rules_walks.specs.Choose.{choose}
 use Rattle.rules_walks.specs.First.{Sought, one, missing}
-use Rattle.rules_numbers.specs.Word.{signed, word}
-use Rattle.rules_numbers.specs.Operation.{operation}
+use Rattle.rules_numbers.specs.Word.{word}
 use Rattle.rules_tables.specs.Kind.{interface, input, output, internal}
 use Rattle.rules_tables.specs.Frame.{Table, flagAt, fieldAt}
 use Rattle.rules_tables.specs.declared.Shape.{Shape}
@@ -17,6 +15,7 @@ use Rattle.rules_moves.specs.Partner.{inputOwner, variableOwner}
 use Rattle.rules_moves.specs.Associated.{associated}
 use Rattle.rules_moves.specs.Take.{firedBy}
 use Rattle.rules_moves.specs.Chart.{elementOf}
+use Rattle.rules_moves.specs.Act.{stepOutcome}
 use Rattle.rules_moves.specs.declared.Next.{Next}
 use Rattle.rules_moves.specs.declared.Next.the-variants.{Take, Change, Idle, Step, End, Back, Nothing}
 use Rattle.rules_traces.specs.declared.Entry.{Entry}
@@ -66,7 +65,7 @@ unfoldable pub resultKind : (role : ℕ) → ℕ
 resultKind role = choose (eqb role internal) internalKind outputKind
 
 unfoldable pub resultOf : Table → Shape → (f age : ℕ) → Store → ℕ
-resultOf T S f age s = word (operation (flagAt T f) (signed (value S s (fieldAt T f 1))) (signed (value S s (fieldAt T f 2))) (pos age))
+resultOf T S f age s = word (stepOutcome T S f age s .result)
 
 -- variable v gets x
 unfoldable pub resultEntry : Table → Shape → (v x : ℕ) → Store → List Entry

@@ -2,12 +2,14 @@
 ghost use mathlib.Core.Path.{_≡_};
 ghost use mathlib.Core.List.{_++_};
 ghost use Prim.Native.Nat.{_<_};
+ghost use Rattle.rules_tables.specs.Frame.{framesOf};
 ghost use Rattle.rules_tables.specs.Good.{Good};
+ghost use Rattle.store_words.specs.Small.{Small};
 ghost use Rattle.rules_tables.specs.Ids.{elements, transitions as «transitionsOf», actions as «actionsOf», steps as «stepsOf», variables as «variablesOf», stepFrame};
 ghost use Rattle.rules_moves.specs.Chart.{elementOf};
 ghost use Rattle.rules_moves.specs.Act.{eventOf};
 ghost use Rattle.rules_traces.specs.Trace.{enabledEntry, finishedEntry, emittedEntry};
-ghost use Rattle.moves_tell.specs.Before.{changeEntries, resultKind, resultEntry, stepEntries, endNumbers, numbersBy};
+ghost use Rattle.moves_tell.specs.Before.{changeEntries, resultKind, resultOf, resultEntry, stepEntries, endNumbers, numbersBy};
 ghost use Rattle.rules_store.specs.Word.{runningOf};
 ghost use Rattle.rules_traces.specs.Kinds.{actionKind, stepKind};
 ghost use Rattle.rules_traces.specs.Entry.{entry};
@@ -83,6 +85,16 @@ fn result_kind(role: usize) -> usize
     }
 }
 
+// What the step at frame f gives.
+pub fn result_of(t: &[u8], store: &[u32], shape: Shape, f: usize, age: u32) -> u32
+    requires { ⌜ Small shape × (f < framesOf (now t)) × (age < 2147483648) ⌝ }
+    ensures { λ r. ⌜ r ≡ resultOf (now (t .entry)) shape f age (now (store .entry)) ⌝ }
+{
+    let b = value_of(store, shape, field(t, f, 1));
+    let c = value_of(store, shape, field(t, f, 2));
+    operate_words(flag(t, f), b, c, age)
+}
+
 // Step j is made.
 pub fn tell_step(
     t: &[u8],
@@ -98,9 +110,7 @@ pub fn tell_step(
 {
     let f = step_frame(t, shape, j);
     let v = field(t, f, 0);
-    let b = value_of(store, shape, field(t, f, 1));
-    let c = value_of(store, shape, field(t, f, 2));
-    let x = operate_words(flag(t, f), b, c, age);
+    let x = result_of(t, store, shape, f, age);
     tell_result(t, store, shape, v, x, trace, at)
 }
 

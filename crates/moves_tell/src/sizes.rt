@@ -21,11 +21,11 @@ ghost use Rattle.moves_tell.specs.Pairs.{partnerEntry};
 ghost use Rattle.moves_tell.specs.Told.{Sized};
 ghost use Rattle.moves_tell.specs.Telling.{Telling};
 ghost use Rattle.table_index.specs.Index.{Indexed};
+use crate::act::result_of;
 use crate::take::differs;
 use moves_chart::element_of;
 use moves_fire::partner::partner_output;
 use moves_fire::partner::partner_variable;
-use numbers::operation::operate_words;
 use numbers::word::since;
 use rules_moves::Next;
 use rules_store::Running;
@@ -199,9 +199,7 @@ fn step_size(t: &[u8], store: &[u32], shape: Shape, j: usize, age: u32) -> usize
 {
     let f = step_frame(t, shape, j);
     let v = field(t, f, 0);
-    let b = value_of(store, shape, field(t, f, 1));
-    let c = value_of(store, shape, field(t, f, 2));
-    let x = operate_words(flag(t, f), b, c, age);
+    let x = result_of(t, store, shape, f, age);
     if value_of(store, shape, v) == x {
         0
     } else {

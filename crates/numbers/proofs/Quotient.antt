@@ -10,12 +10,13 @@ use mir.Syntax.{w32}
 use mir.Val.{SFits, ofZ}
 use Rattle.rules_walks.specs.Choose.{choose}
 use Rattle.rules_numbers.specs.Clip.{clip, quotient}
+use Rattle.rules_numbers.specs.Truth.{exactly, undefined, divided, telling}
 
 word-zero : (z : ℤ) → SFits w32 z → ofZ w32 z ≡ 0 → z ≡ pos 0
 word-zero (pos n) f e = ap pos e
 word-zero (negsuc n) f e = absurd (omega arith)
 
-pub by-zero : {z : ℤ} (b : ℤ) → SFits w32 z → ofZ w32 z ≡ 0 → pos 0 ≡ clip (quotient b z)
+pub by-zero : {z : ℤ} (b : ℤ) → SFits w32 z → ofZ w32 z ≡ 0 → telling (pos 0) undefined ≡ telling (clip (quotient b z)) (divided b z)
 unfolding quotient clip choose
 by-zero {z} b f e = rw (word-zero z f e)
 
@@ -26,6 +27,11 @@ by-other (pos a) (pos (suc n)) ne = refl
 by-other (negsuc a) (pos (suc n)) ne = refl
 by-other (pos a) (negsuc n) ne = refl
 by-other (negsuc a) (negsuc n) ne = refl
+
+pub has-quotient : (b z : ℤ) → (ofZ w32 z ≡ 0 → ⊥) → exactly (quotient b z) ≡ divided b z
+has-quotient b (pos zero) ne = absurd (ne refl)
+has-quotient b (pos (suc n)) ne = refl
+has-quotient b (negsuc n) ne = refl
 
 -- ---- a quotient of two `i32`: only the lowest number by -1 does not fit
 neg-le : (r : ℕ) {a : ℕ} → r ≤ suc a → mag (negℤ (pos r)) ≤ a

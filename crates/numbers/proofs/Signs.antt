@@ -9,14 +9,16 @@ use native.Mathlib.Omega.{arith}
 use lib.IntN.{ℤ, pos, negsuc, negℤ, _+ℤ_, _-ℤ_, _*ℤ_, +ℤ-idl}
 use lib.Dec.{ltb}
 use lib.Signed.{mag, ltZ}
-use borrow.Author.Tests.{ltb-false}
+use borrow.Author.Tests.{ltb-true, ltb-false, ne-eqb}
 use borrow.Author.Needs.{needs}
 use mir.Syntax.{w32, w64}
 use mir.Val.{SFits, toZ, ofZ}
 use mir.Facts.{toZ-ofZ, sfits-widen}
 use Rattle.rules_walks.specs.Choose.{choose}
 use Rattle.rules_walks.specs.laws.Choose.{choose-true, choose-false}
+use Rattle.rules_walks.specs.laws.Pick.{clash}
 use Rattle.rules_numbers.specs.Clip.{lowest, highest, clip}
+use Rattle.rules_numbers.specs.Truth.{undefined, telling, itself, clipped}
 use Rattle.rules_numbers.specs.laws.Nearest.{clip-pos, clip-negsuc}
 use Rattle.numbers.specs.laws.Tests.{lt-is}
 
@@ -57,6 +59,20 @@ within (negsuc n) lo hi = record { sfits = omega (arith, ltb-false) }
 pub kept : (z : ℤ) → SFits w32 z → z ≡ clip z
 kept (pos n) f = ap pos (omega arith) ∙ sym (clip-pos n)
 kept (negsuc n) f = ap negsuc (omega arith) ∙ sym (clip-negsuc n)
+
+-- ---- what is told of a clipped value: beyond an end it is that end and not true, else it is itself
+pub clipped-low : (z : ℤ) → ltZ z lowest ≡ true → telling lowest undefined ≡ clipped z
+unfolding clip
+clipped-low (pos n) e = clash e
+clipped-low (negsuc n) e = rw (choose-true _ _ _ e, ne-eqb 2147483647 n (λ q. omega (arith, ltb-true 2147483647 n e)))
+
+pub clipped-high : (z : ℤ) → ltZ z lowest ≡ false → ltZ highest z ≡ true → telling highest undefined ≡ clipped z
+unfolding clip
+clipped-high (pos n) f e = rw (choose-false _ _ _ f, choose-true _ _ _ e, ne-eqb 2147483647 n (λ q. omega (arith, ltb-true 2147483647 n e)))
+clipped-high (negsuc n) f e = clash e
+
+pub clipped-kept : (z : ℤ) → SFits w32 z → itself z ≡ clipped z
+clipped-kept z f = rw (← kept z f)
 
 -- ---- rules for `search`: what of two `i32` fits an `i64`
 mul-bound : {x y : ℕ} → x ≤ 2147483648 → y ≤ 2147483648 → x * y ≤ 4611686018427387904

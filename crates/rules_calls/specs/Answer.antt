@@ -10,31 +10,37 @@ use Rattle.rules_tables.specs.Judge.{Verdict, accepted, refused}
 use Rattle.rules_calls.specs.declared.Answer.{Answer}
 use Rattle.rules_calls.specs.declared.Answer.the-variants.{Refused, Done, Ran}
 
--- ---- document 01's number, frame, moves, stop number and bytes for each case of an answer
+-- ---- document 01's number, frame, moves, stop number and bytes, and the untrue steps, for each case of an answer
 abbrev pub numberOf : Answer → ℕ
 numberOf (Refused q f) = q
 numberOf Done = 0
-numberOf (Ran m b n) = 0
+numberOf (Ran m b n u) = 0
 
 abbrev pub frameOf : Answer → ℕ
 frameOf (Refused q f) = f
 frameOf Done = 0
-frameOf (Ran m b n) = 0
+frameOf (Ran m b n u) = 0
 
 abbrev pub movesOf : Answer → ℕ
 movesOf (Refused q f) = 0
 movesOf Done = 0
-movesOf (Ran m b n) = m
+movesOf (Ran m b n u) = m
 
 abbrev pub bytesOf : Answer → ℕ
 bytesOf (Refused q f) = 0
 bytesOf Done = 0
-bytesOf (Ran m b n) = b
+bytesOf (Ran m b n u) = b
 
 abbrev pub stopOf : Answer → ℕ
 stopOf (Refused q f) = 0
 stopOf Done = 0
-stopOf (Ran m b n) = n
+stopOf (Ran m b n u) = n
+
+-- "The answer of run tells how many it made."
+abbrev pub untrueOf : Answer → ℕ
+untrueOf (Refused q f) = 0
+untrueOf Done = 0
+untrueOf (Ran m b n u) = u
 
 -- ---- the table's verdict first, then the refusal q of the call, 0 for none
 abbrev pub answerBy : Verdict → ℕ → Answer → Answer

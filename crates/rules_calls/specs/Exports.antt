@@ -7,7 +7,7 @@ use Rattle.rules_tables.specs.declared.Span.{Span}
 use Rattle.rules_tables.specs.Judge.{Verdict, accepted, refused, judge, shapeOf}
 use Rattle.rules_store.specs.Layout.{need}
 use Rattle.rules_calls.specs.declared.Answer.{Answer}
-use Rattle.rules_calls.specs.Answer.{numberOf, frameOf, movesOf, bytesOf, stopOf}
+use Rattle.rules_calls.specs.Answer.{numberOf, frameOf, movesOf, bytesOf, stopOf, untrueOf}
 use Rattle.rules_calls.specs.Public.{LoadCall, AdvanceCall, ArrivalCall, RunCall}
 
 -- an answer's refusal number above the lowest 16 bits, the frame in them
@@ -31,13 +31,14 @@ abbrev pub ArrivalTold : List ℕ → List ℕ → ℕ → ℕ → List ℕ → 
 ArrivalTold T s o birth values r s′ = Told (λ (a : Answer). ArrivalCall T s o birth values a s′) r
 
 -- run tells its counts beside it
-pub record RunTold (T s : List ℕ) (budget : ℕ) (out : List ℕ) (r moves stop bytes : ℕ) (s′ out′ : List ℕ) : Type 0 where
+pub record RunTold (T s : List ℕ) (budget : ℕ) (out : List ℕ) (r moves stop bytes untrue : ℕ) (s′ out′ : List ℕ) : Type 0 where
   pub answer : Answer
   pub call : RunCall T s budget out answer s′ out′
   pub number : r ≡ packed answer
   pub moves-made : moves ≡ movesOf answer
   pub stopped : stop ≡ stopOf answer
   pub bytes-written : bytes ≡ bytesOf answer
+  pub untrue-made : untrue ≡ untrueOf answer
 
 -- ---- a view: the byte of the table at which the frames of a span start, and how many bytes they are
 pub record Lies (s : Span) (start length : ℕ) : Type 0 where

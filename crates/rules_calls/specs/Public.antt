@@ -11,11 +11,11 @@ use Rattle.rules_tables.specs.declared.Shape.{Shape}
 use Rattle.rules_tables.specs.Judge.{Verdict, accepted, refused, frame, judge, shapeOf}
 use Rattle.rules_store.specs.Word.{nowOf}
 use Rattle.rules_store.specs.Load.{loaded}
-use Rattle.rules_calls.specs.Run.{after, bytes, made, stopAfter}
+use Rattle.rules_calls.specs.Run.{after, bytes, untrueIn, made, stopAfter}
 use Rattle.rules_calls.specs.Calls.{advanced, arrived}
 use Rattle.rules_calls.specs.declared.Answer.{Answer}
 use Rattle.rules_calls.specs.declared.Answer.the-variants.{Done, Ran}
-use Rattle.rules_calls.specs.Answer.{numberOf, frameOf, movesOf, bytesOf, stopOf, answerBy, keptBy}
+use Rattle.rules_calls.specs.Answer.{numberOf, frameOf, movesOf, bytesOf, stopOf, untrueOf, answerBy, keptBy}
 use Rattle.rules_calls.specs.Refusals.{loadRefusal, storeRefusal, advanceRefusal, arrivalRefusal}
 
 -- ---- what each call answers and leaves
@@ -38,7 +38,8 @@ abbrev pub runMoves : List ℕ → List ℕ → ℕ → ℕ → ℕ
 runMoves T s budget room = made T (shapeOf T) (nowOf s) budget room s
 
 abbrev pub runAnswer : List ℕ → List ℕ → ℕ → ℕ → ℕ → Answer
-runAnswer T s budget room m = Ran m (length (bytes T (shapeOf T) (nowOf s) m s)) (stopAfter T (shapeOf T) (nowOf s) room s m)
+runAnswer T s budget room m =
+    Ran m (length (bytes T (shapeOf T) (nowOf s) m s)) (stopAfter T (shapeOf T) (nowOf s) room s m) (untrueIn T (shapeOf T) (nowOf s) m s)
 
 -- what it answers where nothing refuses it, and the store that it leaves then
 abbrev pub doneAnswer : List ℕ → ℕ → List ℕ → Call → Answer
@@ -100,30 +101,31 @@ abbrev pub countBy : Verdict → ℕ → ℕ → ℕ
 countBy accepted q n = pick (eqb q 0) n 0
 countBy (refused p f) q n = 0
 
-pub record Tells (r : Answer) (number frame moves bytes stop : ℕ) : Type 0 where
+pub record Tells (r : Answer) (number frame moves bytes stop untrue : ℕ) : Type 0 where
   pub number-is : numberOf r ≡ number
   pub frame-is : frameOf r ≡ frame
   pub moves-are : movesOf r ≡ moves
   pub bytes-are : bytesOf r ≡ bytes
   pub stop-is : stopOf r ≡ stop
+  pub untrue-are : untrueOf r ≡ untrue
 
 -- ---- the calls: answer r, store s′ and output out′ after a call on table T and store s
 pub record LoadCall (T s : List ℕ) (r : Answer) (s′ : List ℕ) : Type 0 where
   pub answer : r ≡ loadAnswer T s
-  pub tells : Tells r (numberBy (judge T) (loadRefusal (shapeOf T) s)) (frame (judge T)) 0 0 0
+  pub tells : Tells r (numberBy (judge T) (loadRefusal (shapeOf T) s)) (frame (judge T)) 0 0 0 0
   pub store : s′ ≡ loadStore T s
 
 pub record AdvanceCall (T s : List ℕ) (t : ℕ) (r : Answer) (s′ : List ℕ) : Type 0 where
   pub answer : r ≡ advanceAnswer T s t
-  pub tells : Tells r (numberBy (judge T) (advanceRefusal T (shapeOf T) s t)) (frame (judge T)) 0 0 0
+  pub tells : Tells r (numberBy (judge T) (advanceRefusal T (shapeOf T) s t)) (frame (judge T)) 0 0 0 0
   pub store : s′ ≡ advanceStore T s t
 
 pub record ArrivalCall (T s : List ℕ) (o birth : ℕ) (values : List ℕ) (r : Answer) (s′ : List ℕ) : Type 0 where
   pub answer : r ≡ arrivalAnswer T s o birth values
-  pub tells : Tells r (numberBy (judge T) (arrivalRefusal T (shapeOf T) s o birth values)) (frame (judge T)) 0 0 0
+  pub tells : Tells r (numberBy (judge T) (arrivalRefusal T (shapeOf T) s o birth values)) (frame (judge T)) 0 0 0 0
   pub store : s′ ≡ arrivalStore T s o birth values
 
--- a run's store is the one after the moves that it tells, and its output has what these wrote; a refused run tells none
+-- a run's store is the one after the moves that it tells, its output has what these wrote, and the untrue steps are those among them; a refused run tells none
 pub record RunCall (T s : List ℕ) (budget : ℕ) (out : List ℕ) (r : Answer) (s′ out′ : List ℕ) : Type 0 where
   pub answer : r ≡ runAnswered T s budget out
   pub tells :
@@ -131,5 +133,6 @@ pub record RunCall (T s : List ℕ) (budget : ℕ) (out : List ℕ) (r : Answer)
       (countBy (judge T) (storeRefusal T (shapeOf T) s) (runMoves T s budget (length out)))
       (length (bytes T (shapeOf T) (nowOf s) (movesOf r) s))
       (countBy (judge T) (storeRefusal T (shapeOf T) s) (stopAfter T (shapeOf T) (nowOf s) (length out) s (movesOf r)))
+      (untrueIn T (shapeOf T) (nowOf s) (movesOf r) s)
   pub store : s′ ≡ after T (shapeOf T) (nowOf s) (movesOf r) s
   pub output : out′ ≡ sets out 0 (bytes T (shapeOf T) (nowOf s) (movesOf r) s)

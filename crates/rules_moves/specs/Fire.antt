@@ -1,21 +1,16 @@
 -- "Fire event e with birth t: for each connection of e in table order, the input becomes waiting with birth t and last update now; if it waited already, the
 -- overwritten count rises. Each data connection from a variable that e carries copies value to buffer; no other buffer changes."
-use Prim.Native.Nat.{ℕ, _+_}
+use Prim.Native.Nat.{ℕ}
 use mathlib.Core.Bool.{Bool}
-use lib.Dec.{eqb, ltb}
-use Rattle.rules_walks.specs.Pick.{pick}
+use lib.Dec.{eqb}
 use Rattle.rules_walks.specs.Choose.{choose}
 use Rattle.rules_walks.specs.Walk.{upTo}
 use Rattle.rules_tables.specs.Frame.{Table, fieldAt}
 use Rattle.rules_tables.specs.declared.Shape.{Shape}
 use Rattle.rules_tables.specs.Ids.{connections, links, connectionFrame, linkFrame}
-use Rattle.rules_store.specs.Word.{Store, countEnd, overwritten, putOverwritten, waiting, putInput, value, putBuffer}
+use Rattle.rules_store.specs.Word.{Store, counted, overwritten, putOverwritten, waiting, putInput, value, putBuffer}
 use Rattle.rules_moves.specs.declared.Voice.{Voice}
 use Rattle.rules_moves.specs.Carry.{voiceOf, carries}
-
--- the overwritten count "stops at 4,294,967,295"; w is the waiting flag that is set
-unfoldable pub counted : (w n : ℕ) → ℕ
-counted w n = pick (eqb w 0) n (pick (ltb n countEnd) (n + 1) n)
 
 -- event input i becomes waiting
 unfoldable pub mark : Shape → (birth time i : ℕ) → Store → Store

@@ -1,6 +1,6 @@
--- One move: which of document 01's six comes next and what it found; and by that alone the store after it, what it writes and how much. `time` is the
--- store's now, which no move changes.
-use Prim.Native.Nat.{ℕ, _+_}
+-- One move: which of document 01's six comes next and what it found; and by that alone the store after it, what it writes and how much, and whether it is an
+-- untrue step. `time` is the store's now, which no move changes.
+use Prim.Native.Nat.{ℕ, _+_, _-_}
 use mathlib.Core.List.{List, []}
 use mathlib.Core.Bool.{Bool, true, false}
 use lib.Dec.{eqb, ltb}
@@ -10,7 +10,7 @@ use Rattle.rules_walks.specs.First.{Sought, one, missing}
 use Rattle.rules_tables.specs.Frame.{fieldAt}
 use Rattle.rules_tables.specs.declared.Shape.{Shape}
 use Rattle.rules_store.specs.declared.Running.{Running}
-use Rattle.rules_tables.specs.Ids.{actionFrame}
+use Rattle.rules_tables.specs.Ids.{actionFrame, stepFrame}
 use Rattle.rules_store.specs.Running.{idle, charts, charting}
 use Rattle.rules_store.specs.Word.{currentEvent, runningOf, putRunning, birthOf}
 use Rattle.rules_moves.specs.declared.Best.{Best}
@@ -22,7 +22,7 @@ use Rattle.rules_moves.specs.Take.{taken}
 use Rattle.rules_moves.specs.Record.{putOut}
 use Rattle.rules_moves.specs.Chart.{transitionOf, change, goIdle, elementOf, stateOf}
 use Rattle.rules_tables.specs.Actions.{actionOf}
-use Rattle.rules_moves.specs.Act.{stepMove, endMove}
+use Rattle.rules_moves.specs.Act.{untrueStep, stepMove, endMove}
 
 -- ---- which move comes next
 -- 1. "Idle, something waiting: take the least"
@@ -72,6 +72,19 @@ moveBy T S time Nothing s = s
 
 unfoldable pub move : List ℕ → Shape → ℕ → List ℕ → List ℕ
 move T S time s = moveBy T S time (nextOf T S s) s
+
+-- ---- how many untrue steps it makes: only a step can be one
+unfoldable pub untrueBy : List ℕ → Shape → ℕ → Next → List ℕ → ℕ
+untrueBy T S time (Take i) s = 0
+untrueBy T S time (Change j) s = 0
+untrueBy T S time Idle s = 0
+untrueBy T S time (Step j) s = untrueStep T S (stepFrame S j) (time - runningOf s .birth) s
+untrueBy T S time (End j) s = 0
+untrueBy T S time Back s = 0
+untrueBy T S time Nothing s = 0
+
+unfoldable pub untrueMove : List ℕ → Shape → ℕ → List ℕ → ℕ
+untrueMove T S time s = untrueBy T S time (nextOf T S s) s
 
 -- ---- what it writes
 unfoldable pub writtenBy : List ℕ → Shape → ℕ → Next → List ℕ → List ℕ

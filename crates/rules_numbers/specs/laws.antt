@@ -4,4 +4,5 @@ pub mod Examples
 pub mod Nearest
 pub mod Operation
 pub mod Sets
+pub mod Truth
 pub mod Word

@@ -52,7 +52,7 @@ malformed = record { stage = halted; text = malformedLine }
 abbrev pub afterLoad : Answer → List ℕ → List ℕ → Stage
 afterLoad (Refused q f) T s = halted
 afterLoad Done T s = calling T s
-afterLoad (Ran m b n) T s = calling T s
+afterLoad (Ran m b n u) T s = calling T s
 
 unfoldable pub loadDeed : List ℕ → List ℕ → Deed
 loadDeed T s = record { stage = afterLoad (loadAnswer T s) T (loadStore T s); text = answerLine (loadAnswer T s) }

@@ -10,14 +10,15 @@ use Rattle.rules_tables.specs.Frame.{flagAt}
 use Rattle.rules_tables.specs.declared.Shape.{Shape}
 use Rattle.rules_tables.specs.Ids.{elements, inputs, variables, variableFrame}
 use Rattle.rules_store.specs.Layout.{need}
-use Rattle.rules_store.specs.Word.{nowOf, runningElement, currentEvent, runningOf, overwritten, spares, spareWord, chartState, dueFlag, dueTime, waiting, birthOf, lastUpdate, value, buffer}
+use Rattle.rules_store.specs.Word.{nowOf, runningElement, currentEvent, runningOf, overwritten, untrue, spares, spareWord, chartState, dueFlag, dueTime, waiting, birthOf, lastUpdate, value, buffer}
 
--- now; the running block with its element and event; the overwritten count; the chart states; the due flags and times; the event inputs; the values of input
--- variables; the values of output and internal variables; the buffers. Every word of the need is of one part, but for the spare ones
+-- now; the running block with its element and event; the overwritten count; the count of untrue steps; the chart states; the due flags and times; the event
+-- inputs; the values of input variables; the values of output and internal variables; the buffers. Every word of the need is of one part, but for the spare ones
 pub data Part : Type 0 where
   time : Part
   block : Part
   count : Part
+  untrues : Part
   chart : Part
   due : Part
   input : Part
@@ -30,12 +31,13 @@ abbrev code : Part → ℕ
 code time = 0
 code block = 1
 code count = 2
-code chart = 3
-code due = 4
-code input = 5
-code sampled = 6
-code computed = 7
-code buffered = 8
+code untrues = 3
+code chart = 4
+code due = 5
+code input = 6
+code sampled = 7
+code computed = 8
+code buffered = 9
 
 -- this part alone
 abbrev pub just : Part → Part → Bool
@@ -50,6 +52,10 @@ everything p = true
 
 abbrev pub nothing : Part → Bool
 nothing p = false
+
+-- what a step touches beside the running block: values that are no inputs, and the count of untrue steps. Nothing asks of these that they are well formed
+abbrev pub calm : Part → Bool
+calm = also untrues (just computed)
 
 -- ---- stores that agree in a part
 pub record SameBlock (s s′ : List ℕ) : Type 0 where
@@ -74,6 +80,7 @@ pub record Leaves (T : List ℕ) (S : Shape) (touched : Part → Bool) (s s′ :
   pub now : touched time ≡ false → nowOf s′ ≡ nowOf s
   pub running : touched block ≡ false → SameBlock s s′
   pub counted : touched count ≡ false → overwritten s′ ≡ overwritten s
+  pub untrue-same : touched untrues ≡ false → untrue s′ ≡ untrue s
   pub charts : touched chart ≡ false → (el : ℕ) → el < elements S → chartState s′ el ≡ chartState s el
   pub dues : touched due ≡ false → (el : ℕ) → el < elements S → SameDue s s′ el
   pub waits : touched input ≡ false → (i : ℕ) → i < inputs S → SameInput S s s′ i

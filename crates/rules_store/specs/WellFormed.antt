@@ -14,7 +14,7 @@ use Rattle.rules_store.specs.Running.{idle, charts, acts}
 use Rattle.rules_store.specs.Word.{Store, largestTime, largestDue, nowOf, runningElement, currentEvent, runningOf, spares, spareWord, chartState, dueFlag, dueTime, waiting, birthOf, lastUpdate, buffer}
 use Rattle.rules_tables.specs.Actions.{actionOf}
 
--- "Words 9 to 15 zero."
+-- "Words 9 to 15 zero.", but for word 11, which counts: any word is well formed there, as in word 8
 unfoldable pub spareOk : Store → (j : ℕ) → Bool
 spareOk s j = eqb (spareWord s j) 0
 

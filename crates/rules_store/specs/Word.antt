@@ -1,8 +1,11 @@
 -- The words of the store by name: one reader and one writer each. "Words 0 to 8: now; running element plus 1, or 0; current event plus 1, or 0; its birth;
--- mode (0 idle, 1 charts, 2 acts); live flag; action number; step number; overwritten count". A place past the store's end reads 0 and is not written.
+-- mode (0 idle, 1 charts, 2 acts); live flag; action number; step number; overwritten count". "Word 11 counts untrue steps since load". A place past the
+-- store's end reads 0 and is not written.
 use Prim.Native.Nat.{ℕ, _+_}
 use mathlib.Core.List.{List}
+use lib.Dec.{eqb, ltb}
 use lib.ListN.{getD, set}
+use Rattle.rules_walks.specs.Pick.{pick}
 use Rattle.rules_tables.specs.declared.Shape.{Shape}
 use Rattle.rules_store.specs.declared.Running.{Running}
 use Rattle.rules_store.specs.Layout.{elementAt, inputAt, variableAt}
@@ -19,9 +22,13 @@ largestTime = 2147483647
 abbrev pub largestDue : ℕ
 largestDue = 4294967294
 
--- "overwritten count, which stops at 4,294,967,295"
+-- "overwritten count, which stops at 4,294,967,295"; the count of untrue steps "stops at 4,294,967,295"
 abbrev pub countEnd : ℕ
 countEnd = 4294967295
+
+-- such a count n, one more where w is not 0
+unfoldable pub counted : (w n : ℕ) → ℕ
+counted w n = pick (eqb w 0) n (pick (ltb n countEnd) (n + 1) n)
 
 unfoldable pub nowOf : Store → ℕ
 nowOf s = getD s 0 0
@@ -52,15 +59,22 @@ overwritten s = getD s 8 0
 unfoldable pub putOverwritten : (n : ℕ) → Store → Store
 putOverwritten n s = set s 8 n
 
--- "Words 9 to 15 zero."
-abbrev pub firstSpare : ℕ
-firstSpare = 9
+-- the count of untrue steps
+unfoldable pub untrue : Store → ℕ
+untrue s = getD s 11 0
 
+unfoldable pub putUntrue : (n : ℕ) → Store → Store
+putUntrue n s = set s 11 n
+
+-- "Words 9 to 15 zero.", but for word 11
 abbrev pub spares : ℕ
-spares = 7
+spares = 6
+
+unfoldable pub spareAt : (j : ℕ) → ℕ
+spareAt j = pick (ltb j 2) (9 + j) (10 + j)
 
 unfoldable pub spareWord : Store → (j : ℕ) → ℕ
-spareWord s j = getD s (firstSpare + j) 0
+spareWord s j = getD s (spareAt j) 0
 
 -- ---- per element
 unfoldable pub chartState : Store → (el : ℕ) → ℕ

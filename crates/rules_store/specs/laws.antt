@@ -4,6 +4,7 @@ pub mod Kept
 pub mod Load
 pub mod Own
 pub mod Part
+pub mod Spare
 pub mod WellFormed
 pub mod Word
 pub mod Writer

@@ -7,10 +7,10 @@ use lib.Seq.{sets}
 use Rattle.rules_tables.specs.Frame.{Table}
 use Rattle.rules_tables.specs.Judge.{frame, judge, shapeOf}
 use Rattle.rules_store.specs.Word.{Store, nowOf}
-use Rattle.rules_calls.specs.Run.{after, bytes}
+use Rattle.rules_calls.specs.Run.{after, bytes, untrueIn}
 use Rattle.rules_calls.specs.declared.Answer.{Answer}
 use Rattle.rules_calls.specs.declared.Answer.the-variants.{Done, Ran}
-use Rattle.rules_calls.specs.Answer.{movesOf, stopOf, bytesOf, answerBy}
+use Rattle.rules_calls.specs.Answer.{movesOf, stopOf, bytesOf, untrueOf, answerBy}
 use Rattle.rules_calls.specs.Refusals.{loadRefusal, storeRefusal}
 use Rattle.rules_calls.specs.Public.{numberBy, countBy, Tells}
 use Rattle.rules_calls.specs.Exports.{packed}
@@ -25,7 +25,8 @@ abbrev pub tracedMoves : Table → Store → (budget room space : ℕ) → ℕ
 tracedMoves T s budget room space = tracedMade T (shapeOf T) (nowOf s) budget room space s
 
 abbrev pub tracedRan : Table → Store → (room space m : ℕ) → Answer
-tracedRan T s room space m = Ran m (length (bytes T (shapeOf T) (nowOf s) m s)) (tracedStop T (shapeOf T) (nowOf s) room space s m)
+tracedRan T s room space m =
+    Ran m (length (bytes T (shapeOf T) (nowOf s) m s)) (tracedStop T (shapeOf T) (nowOf s) room space s m) (untrueIn T (shapeOf T) (nowOf s) m s)
 
 abbrev pub tracedAnswer : Table → Store → (budget : ℕ) → (out tr : List ℕ) → Answer
 tracedAnswer T s budget out tr =
@@ -39,6 +40,7 @@ pub record TracedCall (T : Table) (s : Store) (budget : ℕ) (out tr : List ℕ)
       (countBy (judge T) (storeRefusal T (shapeOf T) s) (tracedMoves T s budget (length out) (length tr)))
       (length (bytes T (shapeOf T) (nowOf s) (movesOf (r .answer)) s))
       (countBy (judge T) (storeRefusal T (shapeOf T) s) (tracedStop T (shapeOf T) (nowOf s) (length out) (length tr) s (movesOf (r .answer))))
+      (untrueIn T (shapeOf T) (nowOf s) (movesOf (r .answer)) s)
   pub traced : r .traced ≡ length (trace T (shapeOf T) (nowOf s) (movesOf (r .answer)) s)
   pub store : s′ ≡ after T (shapeOf T) (nowOf s) (movesOf (r .answer)) s
   pub output : out′ ≡ sets out 0 (bytes T (shapeOf T) (nowOf s) (movesOf (r .answer)) s)
@@ -54,13 +56,13 @@ showCount T s text frames = countBy (judge T) (loadRefusal (shapeOf T) s) (shown
 
 pub record ShowCall (T : Table) (s : Store) (text : List ℕ) (frames : ℕ) (r : Shown) (s′ : Store) : Type 0 where
   pub answer : r .answer ≡ showAnswer T s
-  pub tells : Tells (r .answer) (numberBy (judge T) (loadRefusal (shapeOf T) s)) (frame (judge T)) 0 0 0
+  pub tells : Tells (r .answer) (numberBy (judge T) (loadRefusal (shapeOf T) s)) (frame (judge T)) 0 0 0 0
   pub shown : r .shown ≡ showCount T s text frames
   pub line : r .line ≡ countBy (judge T) (loadRefusal (shapeOf T) s) (endedBy text frames (r .shown))
   pub store : s′ ≡ shownAfter (shapeOf T) text (r .shown) s
 
 -- ---- the same for hosts in C: refusal number and frame as one number, the counts through pointers
-pub record TracedTold (T : Table) (s : Store) (budget : ℕ) (out tr : List ℕ) (r moves stop bytes traced : ℕ) (s′ : Store) (out′ tr′ : List ℕ) : Type 0 where
+pub record TracedTold (T : Table) (s : Store) (budget : ℕ) (out tr : List ℕ) (r moves stop bytes traced untrue : ℕ) (s′ : Store) (out′ tr′ : List ℕ) : Type 0 where
   pub answer : Traced
   pub call : TracedCall T s budget out tr answer s′ out′ tr′
   pub number : r ≡ packed (answer .answer)
@@ -68,6 +70,7 @@ pub record TracedTold (T : Table) (s : Store) (budget : ℕ) (out tr : List ℕ)
   pub stopped : stop ≡ stopOf (answer .answer)
   pub bytes-written : bytes ≡ bytesOf (answer .answer)
   pub trace-written : traced ≡ answer .traced
+  pub untrue-made : untrue ≡ untrueOf (answer .answer)
 
 pub record ShowTold (T : Table) (s : Store) (text : List ℕ) (frames r shown line : ℕ) (s′ : Store) : Type 0 where
   pub answer : Shown

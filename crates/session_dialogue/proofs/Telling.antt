@@ -72,7 +72,7 @@ module _ (s r : Session) {p : Phase} {at : ℕ} (t : (r .phase ≡ p) × (r .end
     load-stands : (a : Answer) → p ≡ phaseAfter a → Stands (afterLoad a T S) r tb st′ W
     load-stands (Refused q f) e = t .0 ∙ e
     load-stands Done e = in-calls e
-    load-stands (Ran m b n) e = in-calls e
+    load-stands (Ran m b n u) e = in-calls e
 
     told-calls : (P text text′ : List ℕ) → p ≡ Calls → text′ ≡ sets text (s .at) P → at ≡ s .at + length P → Took (record { stage = calling T S; text = P }) s r tb st′ W text text′
     told-calls P text text′ e u v = record { stands = in-calls e; place-is = t .3 ∙ v; text-is = u }
@@ -244,7 +244,7 @@ refused-then : (a : Answer) (T S P L : List ℕ) {s r : Session} {t st W text te
     → Took (andThen (record { stage = afterLoad a T S; text = P }) (judgedLine L)) s r t st W text text′
 refused-then (Refused q f) T S P L {s} {r} {t} {st} {W} {text} {text′} h w = took-then (judgedLine L) w (took-none halted r t st W text′ (w .stands))
 refused-then Done T S P L h w = clash (ap isStopped (sym (w .stands .phase-is)) ∙ h)
-refused-then (Ran m b n) T S P L h w = clash (ap isStopped (sym (w .stands .phase-is)) ∙ h)
+refused-then (Ran m b n u) T S P L h w = clash (ap isStopped (sym (w .stands .phase-is)) ∙ h)
 
 calls-then : (T S P L : List ℕ) {s r₁ r : Session} {t st₁ W st′ text text₁ text′ : List ℕ} → Took (record { stage = calling T S; text = P }) s r₁ t st₁ W text text₁
     → (255 ≤ length W → Took (callBy (take (r₁ .end) t) st₁ (lineCommand L)) r₁ r t st′ W text₁ text′)
@@ -258,7 +258,7 @@ went-then : (a : Answer) (T S P L : List ℕ) {s r₁ r : Session} {t st₁ W st
     → Took (andThen (record { stage = afterLoad a T S; text = P }) (judgedLine L)) s r t st′ W text text′
 went-then (Refused q f) T S P L h v w = clash (sym h ∙ ap isStopped (v .stands))
 went-then Done T S P L h v w = calls-then T S P L v w
-went-then (Ran m b n) T S P L h v w = calls-then T S P L v w
+went-then (Ran m b n u) T S P L h v w = calls-then T S P L v w
 
 module _ (T st L : List ℕ) where
   pub load-refused : {s r : Session} {t st′ W text text′ : List ℕ} {b : Bool} → b ≡ isStopped (r .phase) → b ≡ true → Took (loadDeed T st) s r t st′ W text text′

@@ -23,7 +23,7 @@ use Rattle.rules_sessions.specs.Reading.{Reading, afterBytes, closed}
 abbrev pub phaseAfter : Answer → Phase
 phaseAfter (Refused q f) = Stopped
 phaseAfter Done = Calls
-phaseAfter (Ran m b n) = Calls
+phaseAfter (Ran m b n u) = Calls
 
 abbrev pub isStopped : Phase → Bool
 isStopped Table = false

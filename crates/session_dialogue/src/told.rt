@@ -47,7 +47,7 @@ fn after_load(a: Answer) -> Phase
     match a {
         Answer::Refused(_, _) => Phase::Stopped,
         Answer::Done => Phase::Calls,
-        Answer::Ran(_, _, _) => Phase::Calls,
+        Answer::Ran(_, _, _, _) => Phase::Calls,
     }
 }
 

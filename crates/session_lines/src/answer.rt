@@ -46,7 +46,7 @@ pub fn put_answer(text: &mut [u8], at: usize, a: Answer) -> usize
     match a {
         Answer::Refused(number, frame) => put_numbers(text, at, number, frame, 0, 0, 0),
         Answer::Done => put_numbers(text, at, 0, 0, 0, 0, 0),
-        Answer::Ran(moves, bytes, stop) => put_numbers(text, at, 0, 0, moves, stop, bytes),
+        Answer::Ran(moves, bytes, stop, _) => put_numbers(text, at, 0, 0, moves, stop, bytes),
     }
 }
 

@@ -27,7 +27,7 @@ use table_frames::frame::flag;
 use table_frames::kind::BASIC;
 use table_parts::Found;
 
-// Words 9 to 15 are zero.
+// Words 9, 10 and 12 to 15 are zero.
 pub fn spares_ok(store: &[u32]) -> bool
     ensures { λ r. ⌜ r ≡ allTo (spareOk (now (store .entry))) spares ⌝ }
 {

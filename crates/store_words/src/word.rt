@@ -9,7 +9,7 @@ ghost use Rattle.rules_tables.specs.Ids.{inputs as «inputsOf», variables as �
 ghost use Rattle.rules_store.specs.Layout.{need, elementAt, inputAt, variableAt};
 ghost use Rattle.rules_store.specs.Running.{stepped, charting, entered};
 ghost use Rattle.store_words.specs.Small.{Small};
-ghost use Rattle.rules_store.specs.Word.{spares, nowOf, putNow, runningElement, currentEvent, putOwner, runningOf, putRunning, overwritten, putOverwritten, spareWord, chartState, putChartState, dueFlag, dueTime, putDue, waiting, birthOf, lastUpdate, putInput, value, putValue, buffer, putBuffer};
+ghost use Rattle.rules_store.specs.Word.{counted as «countedOf», spares, spareAt, nowOf, putNow, runningElement, currentEvent, putOwner, runningOf, putRunning, overwritten, putOverwritten, untrue, putUntrue, spareWord, chartState, putChartState, dueFlag, dueTime, putDue, waiting, birthOf, lastUpdate, putInput, value, putValue, buffer, putBuffer};
 use crate::shape::inputs;
 use rules_store::Running;
 use rules_tables::Shape;
@@ -20,8 +20,18 @@ pub const LARGEST_TIME: u32 = 2147483647;
 // The largest due time.
 pub const LARGEST_DUE: u32 = 4294967294;
 
-// Where the overwritten count stops.
+// Where the counts stop: of overwritten events, and of untrue steps.
 pub const COUNT_END: u32 = 4294967295;
+
+// Such a count, one more where w is not 0.
+pub fn counted(w: u32, n: u32) -> u32
+    ensures { λ r. ⌜ r ≡ countedOf w n ⌝ }
+{
+    if w == 0 {
+        return n;
+    }
+    if n < COUNT_END { n + 1 } else { n }
+}
 
 fn word(store: &[u32], k: usize) -> u32
     ensures { λ r. ⌜ r ≡ getD (now (store .entry)) k 0 ⌝ }
@@ -142,17 +152,37 @@ pub fn put_overwritten(store: &mut [u32], x: u32)
     put(store, 8, x);
 }
 
-// The words that are zero, 9 to 15.
-const FIRST_SPARE: usize = 9;
+// The count of untrue steps.
+pub fn untrue_count(store: &[u32]) -> u32
+    ensures { λ r. ⌜ r ≡ untrue (now (store .entry)) ⌝ }
+{
+    word(store, 11)
+}
 
-pub const SPARES: usize = 7;
+// Sets it.
+pub fn put_untrue(store: &mut [u32], x: u32)
+    ensures { λ _. ⌜ now (store .exit) ≡ putUntrue x (now (store .entry)) ⌝ }
+{
+    put(store, 11, x);
+}
 
-// Word j of them.
+// The words that are zero: 9, 10, 12 to 15.
+pub const SPARES: usize = 6;
+
+// Where word j of them lies.
+fn spare_at(j: usize) -> usize
+    requires { ⌜ j < spares ⌝ }
+    ensures { λ r. ⌜ r ≡ spareAt j ⌝ }
+{
+    if j < 2 { 9 + j } else { 10 + j }
+}
+
+// What it holds.
 pub fn spare(store: &[u32], j: usize) -> u32
     requires { ⌜ j < spares ⌝ }
     ensures { λ r. ⌜ r ≡ spareWord (now (store .entry)) j ⌝ }
 {
-    word(store, FIRST_SPARE + j)
+    word(store, spare_at(j))
 }
 
 // Where the words of element el start.

@@ -70,7 +70,7 @@ pub extern "C" fn xal_arrival(
     pack(calls::arrival(table, store, event, birth, values))
 }
 
-// `run`; moves, stop number and bytes are handed out through pointers, all 0 where the call is refused.
+// `run`; moves, stop number, bytes and untrue steps are handed out through pointers, all 0 where the call is refused.
 #[no_mangle]
 pub extern "C" fn xal_run(
     table: &[u8],
@@ -80,17 +80,19 @@ pub extern "C" fn xal_run(
     moves: &mut u32,
     stop: &mut u32,
     bytes: &mut usize,
+    untrue: &mut u32,
 ) -> u64
-    ensures { λ r. ⌜ RunTold (now (table .entry)) (now (store .entry)) budget (now (out .entry)) r (now (moves .exit)) (now (stop .exit)) (now (bytes .exit)) (now (store .exit)) (now (out .exit)) ⌝ }
+    ensures { λ r. ⌜ RunTold (now (table .entry)) (now (store .entry)) budget (now (out .entry)) r (now (moves .exit)) (now (stop .exit)) (now (bytes .exit)) (now (untrue .exit)) (now (store .exit)) (now (out .exit)) ⌝ }
 {
     let answer = calls::run(table, store, budget, out);
     *moves = answer.moves();
     *stop = answer.stop();
     *bytes = answer.bytes();
+    *untrue = answer.untrue();
     pack(answer)
 }
 
-// `run_traced`; moves, stop number, bytes and trace bytes are handed out through pointers, all 0 where the call is refused.
+// `run_traced`; moves, stop number, bytes, trace bytes and untrue steps are handed out through pointers, all 0 where the call is refused.
 #[no_mangle]
 pub extern "C" fn xal_run_traced(
     table: &[u8],
@@ -102,8 +104,9 @@ pub extern "C" fn xal_run_traced(
     stop: &mut u32,
     bytes: &mut usize,
     traced: &mut usize,
+    untrue: &mut u32,
 ) -> u64
-    ensures { λ r. ⌜ TracedTold (now (table .entry)) (now (store .entry)) budget (now (out .entry)) (now (trace .entry)) r (now (moves .exit)) (now (stop .exit)) (now (bytes .exit)) (now (traced .exit)) (now (store .exit)) (now (out .exit)) (now (trace .exit)) ⌝ }
+    ensures { λ r. ⌜ TracedTold (now (table .entry)) (now (store .entry)) budget (now (out .entry)) (now (trace .entry)) r (now (moves .exit)) (now (stop .exit)) (now (bytes .exit)) (now (traced .exit)) (now (untrue .exit)) (now (store .exit)) (now (out .exit)) (now (trace .exit)) ⌝ }
 {
     let told = calls::traced::run_traced(table, store, budget, out, trace);
     *traced = told.traced;
@@ -111,6 +114,7 @@ pub extern "C" fn xal_run_traced(
     *moves = ran.moves();
     *stop = ran.stop();
     *bytes = ran.bytes();
+    *untrue = ran.untrue();
     pack(ran)
 }
 

@@ -1,7 +1,7 @@
 //! Compares the calls of the library, made by a program over pipes, with the
 //! second program's, on arbitrary tables and stores.
 
-use second::coverage::TraceCoverage;
+use second::coverage::CallCoverage;
 use second::gen::requests::requests;
 use second::host::{reply_watched, Call, Reply, Request, NAMES};
 use second::lines::digits;
@@ -66,7 +66,7 @@ fn compare_round(
 ) -> Result<Option<String>, String> {
     let mut found = Ok(None);
     requests(seed, round, &mut |request| {
-        let expected = reply_watched(&request, &mut reached.traces);
+        let expected = reply_watched(&request, &mut reached.watched);
         if matches!(found, Ok(None)) {
             reached.see(&request.call, &expected);
             found = served.make(&request).map_or_else(
@@ -193,11 +193,11 @@ impl Served {
         let call = Sent::of(&request.call);
         self.input.write_all(&call.bytes(request))?;
         self.input.flush()?;
-        let mut numbers = [0; 8];
+        let mut numbers = [0; 9];
         for number in &mut numbers {
             *number = u64::from_le_bytes(self.read(8)?.try_into().expect("8 bytes"));
         }
-        let [answer, moves, stop, bytes, traced, shown, line, guarded] = numbers;
+        let [answer, moves, stop, bytes, traced, shown, line, untrue, guarded] = numbers;
         let table = self.read(request.table.len())?;
         let words = self.read(4 * request.store.len())?;
         let values = self.read(4 * call.values.len())?;
@@ -211,7 +211,8 @@ impl Served {
             // The text is lent for reading.
             lent_is_kept &= std::mem::take(&mut trace) == *text;
         }
-        let reply = Reply { answer, moves, stop, bytes, traced, shown, line, store, output, trace };
+        let reply =
+            Reply { answer, moves, stop, bytes, traced, shown, line, untrue, store, output, trace };
         Ok(Given { reply, lent_is_kept })
     }
 
@@ -247,7 +248,8 @@ struct Reached {
     lengths: [[u64; 2]; NAMES.len()],
     moves: u64,
     bytes: u64,
-    traces: TraceCoverage,
+    untrue: u64,
+    watched: CallCoverage,
 }
 
 /// The calls that answer by a refusal number, with the numbers that each gives.
@@ -277,6 +279,7 @@ impl Reached {
         self.stops[number][reply.stop as usize] += 1;
         self.moves += reply.moves;
         self.bytes += reply.bytes;
+        self.untrue += reply.untrue;
     }
 
     fn print(&self) {
@@ -299,8 +302,9 @@ impl Reached {
             let stops = numbers.iter().map(|&stop| format!("  {stop}: {}", self.stops[call][stop]));
             println!("{:>10} stopped by:{}", NAMES[call], stops.collect::<String>());
         }
-        println!("     moves:  {}, bytes of records: {}", self.moves, self.bytes);
-        println!("{}", self.traces);
+        let (moves, untrue, bytes) = (self.moves, self.untrue, self.bytes);
+        println!("     moves:  {moves}, untrue steps: {untrue}, bytes of records: {bytes}");
+        println!("{}", self.watched);
     }
 
     /// Enough calls must reach every number that each call can give.
@@ -319,7 +323,7 @@ impl Reached {
             let absent = numbers.iter().filter(|&&stop| self.stops[call][stop] == 0);
             missed.extend(absent.map(|stop| format!("{} stopped by {stop}", NAMES[call])));
         }
-        missed.extend(self.traces.missed());
+        missed.extend(self.watched.missed());
         if self.calls >= ENOUGH_CALLS && !missed.is_empty() {
             println!("not reached: {}", missed.join(", "));
             return false;

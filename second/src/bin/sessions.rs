@@ -1,7 +1,7 @@
 //! Random sessions: generates them, runs them, writes them to a directory if
 //! one is named, and prints what they reached.
 
-use second::coverage::{Coverage, ENOUGH_SESSIONS};
+use second::coverage::{Coverage, ResultCoverage, ENOUGH_SESSIONS};
 use second::gen::session;
 use second::lines::step_program;
 use std::fs;
@@ -10,10 +10,13 @@ use std::process::ExitCode;
 
 const USAGE: &str = "usage: sessions SEED COUNT [DIRECTORY]";
 
+/// The numbers that the step program tells, and the results of steps.
+type Reached = (Coverage, ResultCoverage);
+
 fn main() -> ExitCode {
     let words: Vec<String> = std::env::args().skip(1).collect();
     match sessions(&words) {
-        Ok(coverage) => judge(&coverage),
+        Ok(reached) => judge(&reached),
         Err(message) => {
             eprintln!("{message}");
             ExitCode::from(2)
@@ -21,7 +24,7 @@ fn main() -> ExitCode {
     }
 }
 
-fn sessions(words: &[String]) -> Result<Coverage, String> {
+fn sessions(words: &[String]) -> Result<Reached, String> {
     let (seed, count, directory) = match words {
         [seed, count] => (seed, count, None),
         [seed, count, directory] => (seed, count, Some(Path::new(directory))),
@@ -32,24 +35,24 @@ fn sessions(words: &[String]) -> Result<Coverage, String> {
     if let Some(directory) = directory {
         fs::create_dir_all(directory).map_err(|e| e.to_string())?;
     }
-    let mut coverage = Coverage::default();
+    let mut reached = Reached::default();
     for number in 0..count {
         let input = session(seed, number);
         if let Some(directory) = directory {
             let file = directory.join(format!("{number:04}.session"));
             fs::write(file, &input).map_err(|e| e.to_string())?;
         }
-        step_program(&input, &mut coverage);
-        coverage.sessions += 1;
+        step_program(&input, &mut reached);
+        reached.0.sessions += 1;
     }
-    Ok(coverage)
+    Ok(reached)
 }
 
 /// Prints what was reached; enough sessions must reach everything.
-fn judge(coverage: &Coverage) -> ExitCode {
-    println!("{coverage}");
-    let missed = coverage.missed();
-    if coverage.sessions >= ENOUGH_SESSIONS && !missed.is_empty() {
+fn judge((numbers, results): &Reached) -> ExitCode {
+    println!("{numbers}\n{results}");
+    let missed = [numbers.missed(), results.missed_by_sessions()].concat();
+    if numbers.sessions >= ENOUGH_SESSIONS && !missed.is_empty() {
         println!("not reached: {}", missed.join(", "));
         return ExitCode::FAILURE;
     }

@@ -8,6 +8,7 @@ pub mod rng;
 mod script;
 mod skeleton;
 mod spoil;
+mod steps;
 mod wiring;
 
 use crate::lines::shortest_line;

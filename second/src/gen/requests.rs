@@ -1,16 +1,18 @@
 //! Calls on arbitrary tables and stores: the session's own calls, one after
 //! the other on a store that grows out of them, and beside each a call on a
 //! copy of that store, whole, spoiled or cut, or on any words, with the table or
-//! a damaged one. Traces of the runs are read, whole, cut and damaged.
+//! a damaged one, or a run of a block put before one of its steps. The count of
+//! untrue steps is any. Traces of the runs are read, whole, cut and damaged.
 
 use super::faults::{faulty_line, good_line};
 use super::rng::Rng;
 use super::session;
+use super::steps::put_before_step;
 use crate::calls::Checked;
 use crate::host::{Call, Request};
 use crate::lines::{self, calls_of_lines, lines_of, part, table_of_lines, text_of, OUTPUT_BYTES};
 use crate::reader::Fault;
-use crate::store::need;
+use crate::store::{self, need, word};
 use crate::table::{kind, FRAME_BYTES};
 use crate::trace::Trace;
 
@@ -37,11 +39,15 @@ pub fn requests(seed: u64, round: u64, made: &mut impl FnMut(Request) -> Vec<u32
     }
     store = made(draw.request(store, Call::Load));
     for call in calls_of_lines(call_lines).into_iter().take(most) {
+        draw.set_count(&mut store);
         let call = draw.with_rooms(call, &store);
         draw.note_trace(&call, &store);
         store = made(draw.request(store, call));
         if draw.rng.chance(70) {
             made(draw.probe(&store));
+        }
+        if let Some(request) = draw.stepping(&store) {
+            made(request);
         }
         if draw.rng.chance(20) {
             made(draw.reading());
@@ -83,6 +89,15 @@ impl Draw {
         let any = self.rng.bits() as u32;
         let near = [0, 1, 2, 3, 7, any % 16, 0x7FFF_FFFF, 0x8000_0000, u32::MAX - 1, u32::MAX, any];
         self.rng.pick(&near)
+    }
+
+    /// Any count of untrue steps is well formed. Often it is near its end, so
+    /// that runs get there.
+    fn set_count(&mut self, store: &mut [u32]) {
+        if self.rng.chance(40) {
+            let (near, any) = (u32::MAX - self.rng.below(3) as u32, self.any_word());
+            store[word::UNTRUE] = self.rng.pick(&[near, near, near, any]);
+        }
     }
 
     /// Any bytes, mostly few, so that runs meet the end of the buffer.
@@ -251,12 +266,28 @@ impl Draw {
         Request { table, store: words, call }
     }
 
-    /// Changes a word: to any, to one near it, or to another's.
+    /// Now and then, if the table has steps: a run on a store in which a block is
+    /// about to make some whose results lie at the ends of the range.
+    fn stepping(&mut self, store: &[u32]) -> Option<Request> {
+        let model = self.checked.model().filter(|_| self.rng.chance(35))?;
+        let mut state = store::read(model, store)?;
+        put_before_step(&mut self.rng, model, &mut state)?;
+        let mut words = store.to_vec();
+        store::write(model, &state, &mut words);
+        self.set_count(&mut words);
+        let budget = self.rng.below(60) as u32;
+        let call = self.any_run(budget, &words);
+        Some(self.request(words, call))
+    }
+
+    /// Changes a word: to any, to one near it, or to another's. The count of
+    /// untrue steps may be any, so that word is passed over.
     fn spoil(&mut self, words: &mut [u32]) {
-        let place = match self.rng.below(3) {
-            0 => self.rng.below(16.min(words.len())),
-            _ => self.rng.below(words.len()),
-        };
+        let end = self.rng.pick(&[word::FIRST_PART, words.len(), words.len()]);
+        let mut places: Vec<usize> = (0..end).filter(|&place| place != word::UNTRUE).collect();
+        // The few that are always to be zero come more often.
+        places.extend([word::ZEROS; 2].concat());
+        let place = self.rng.pick(&places);
         words[place] = match self.rng.below(4) {
             0 => words[place].wrapping_add(1),
             1 => words[place].wrapping_sub(1),
@@ -333,5 +364,28 @@ impl Draw {
             2 => u64::MAX - low,
             _ => low,
         }
+    }
+}
+
+#[cfg(test)]
+mod tests {
+    use super::*;
+    use std::collections::BTreeSet;
+
+    #[test]
+    fn spoiling_reaches_every_word_but_the_count_of_untrue_steps() {
+        let table = Vec::new();
+        let (rng, checked) = (Rng::new(11, 0), Checked::of(&table));
+        let latest = Scene { store: Vec::new(), text: Vec::new() };
+        let mut draw = Draw { rng, table, checked, need: 30, latest, faults: 0 };
+        let mut reached = BTreeSet::new();
+        for _ in 0..2000 {
+            let mut words = [5; 30];
+            draw.spoil(&mut words);
+            reached.extend((0..30).filter(|&place| words[place] != 5));
+        }
+        let mut expected: BTreeSet<usize> = (0..30).collect();
+        expected.remove(&word::UNTRUE);
+        assert_eq!(reached, expected);
     }
 }

@@ -78,6 +78,37 @@ pub fn table(lines: &[&str]) -> Vec<u8> {
     lines.iter().flat_map(bytes).collect()
 }
 
+/// A source and a basic element with one event, states 0 to 2, inputs 2 and 3
+/// fed by the source's variables 0 and 1, and the output 4.
+pub fn chart(lines: &[String]) -> Vec<u8> {
+    let mut all: Vec<String> = [
+        "0103",
+        "01000001",
+        "02000001",
+        "0300",
+        "0401",
+        "0401",
+        "04000001",
+        "04000001",
+        "04010001",
+        "050000000002",
+        "050000000003",
+        "050100000000",
+        "050100000001",
+        "06000001",
+        "06000001",
+        "06000001",
+    ]
+    .map(String::from)
+    .to_vec();
+    all.extend_from_slice(lines);
+    all.extend(["0A00", "0B0000000002", "0B0000010003"].map(String::from));
+    table(&all.iter().map(String::as_str).collect::<Vec<&str>>())
+}
+
+/// Where the words of the chart's variables begin.
+pub const CHART_VARIABLES: usize = 16 + 6 + 3;
+
 /// The lines of FULL with some of them replaced.
 pub fn full_with(changes: &[(usize, &'static str)]) -> Vec<&'static str> {
     let mut lines = FULL.to_vec();

@@ -17,24 +17,21 @@ use Rattle.rules_calls.specs.Run.{after}
 use Rattle.rules_calls.specs.declared.Answer.{Answer}
 use Rattle.rules_calls.specs.Refusals.{storeRefusal}
 use Rattle.rules_calls.specs.Public.{RunCall}
-use Rattle.rules_log.specs.Log.{empty}
-use Rattle.rules_log.specs.Origin.{asFound}
 use Rattle.rules_traces.specs.declared.Traced.{Traced}
 use Rattle.rules_traces.specs.Entry.{entryFrames}
 use Rattle.rules_traces.specs.Trace.{entriesOf}
 use Rattle.rules_traces.specs.Traceable.{Traceable}
 use Rattle.rules_traces.specs.Public.{TracedCall}
 use Rattle.rules_traces.specs.laws.Traceable.{traceable}
-use Rattle.laws_log.specs.laws.Holds.{found-holds}
-use Rattle.laws_log.specs.laws.Moves.{run-goes}
+use Rattle.laws_log.specs.laws.Moves.{formed-after as «run-formed»}
 use Rattle.laws_calls.specs.laws.Refusals.{store-formed}
 use Rattle.laws_traces.specs.laws.Same.{traced-bounded}
 use Rattle.moves_tell.specs.Telling.{Telling}
 use Rattle.moves_tell.specs.laws.Sizing.{few-bytes}
 
 -- ---- each store of the run is well formed
-pub formed-after : (T : List ℕ) (S : Shape) (time n : ℕ) (s₀ : List ℕ) → Traceable T S → Formed T S s₀ → time ≡ nowOf s₀ → Formed T S (after T S time n s₀)
-formed-after T S time n s₀ k f e = rw e (run-goes T S (asFound S s₀) (k .is-lawful) s₀ empty n (found-holds T S s₀ f) .holds .formed)
+formed-after : (T : List ℕ) (S : Shape) (time n : ℕ) (s₀ : List ℕ) → Traceable T S → Formed T S s₀ → time ≡ nowOf s₀ → Formed T S (after T S time n s₀)
+formed-after T S time n s₀ k f e = rw e («run-formed» T S (k .is-lawful) n s₀ f)
 
 pub telling : (T : List ℕ) (S : Shape) (time n : ℕ) (s₀ s : List ℕ) {r : Running} {next : Next} → Traceable T S → Formed T S s₀ → time ≡ nowOf s₀ → time < 2147483648 → s ≡ after T S time n s₀
     → r ≡ runningOf s → next ≡ nextBy T S r s → Telling T S time r next s

@@ -1,17 +1,18 @@
--- `number_main::main` meets its contract: every row can be asked and is answered as it should be (`young`, `right`). The invariant bounds the row's number, and the measure is how many rows are left.
+-- `main` meets its contract: every row can be asked and is answered as it should be (`young`, `right`, `rightly-told`). The invariant bounds the row's number, and the measure is how many rows are left.
 use Prim.Native.Nat.{_-_, _≤_}
-use mathlib.Core.Path.{_∙_}
+use mathlib.Core.Path.{ap, _∙_}
 use borrow.Author.Needs.{needs}
 use borrow.Author.Tests.{eq-eqb}
-use Rattle.cases_numbers.specs.laws.Rows.{young, right}
+use Rattle.cases_numbers.specs.declared.Told.{Told}
+use Rattle.cases_numbers.specs.laws.Rows.{young, right, rightly-told}
 use Rattle.cases_numbers.proofs.main.Statement.{statement}
 use Rattle.cases_numbers.proofs.main.Tie as tie
 
 abbrev Inv-loop : tie.InvT-loop
-Inv-loop i₀ i = i ≤ 22
+Inv-loop i₀ i = i ≤ 26
 
 abbrev μ-loop : tie.MeasureT-loop
-μ-loop i₀ i = 22 - i
+μ-loop i₀ i = 26 - i
 
 loop-holds : tie.Need-loop-holds Inv-loop μ-loop
 loop-holds c = search needs
@@ -23,10 +24,10 @@ answer-requires : tie.Need-answer-requires Inv-loop μ-loop
 answer-requires c κs = rw (c .row-at .ensures) (young (c .before .before .loop .i) (c .before .loop-test .taken))
 
 expect-requires : tie.Need-expect-requires Inv-loop μ-loop
-expect-requires c κs =
-    let asked = c .before .before in
-    let turn = asked .before in
-    eq-eqb _ _ (c .before .answer .ensures ∙ rw (asked .row-at .ensures) (right (turn .before .loop .i) (turn .loop-test .taken)))
+expect-requires c κs = eq-eqb _ _ (ap (λ (t : Told). t .0) (c .before .before .answer .ensures) ∙ rw (c .before .before .before .row-at .ensures) (right (c .before .before .before .before .before .loop .i) (c .before .before .before .before .loop-test .taken)))
+
+expect-requires-2 : tie.Need-expect-requires-2 Inv-loop μ-loop
+expect-requires-2 c κs = eq-eqb _ _ (ap (λ (t : Told). t .1) (c .before .before .before .before .before .answer .ensures) ∙ rw (c .before .before .before .before .before .before .row-at .ensures) (rightly-told (c .before .before .before .before .before .before .before .before .loop .i) (c .before .before .before .before .before .before .before .loop-test .taken)))
 
 add-i : tie.Need-add-i Inv-loop μ-loop
 add-i c = search needs
@@ -53,6 +54,7 @@ main-spec =
     row-at-requires
     answer-requires
     expect-requires
+    expect-requires-2
     add-i
     loop-less
     loop-again

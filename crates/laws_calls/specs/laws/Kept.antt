@@ -53,8 +53,8 @@ refused-keeps accepted q p f d s x h e = by (eqb q 0) e
 done-other : (a b : ℕ) → Done ≡ Refused a b → ⊥
 done-other a b e = let y : _≡_ {A = ℕ} 0 1 = cc in omega arith
 
-ran-other : (m n k a b : ℕ) → Ran m n k ≡ Refused a b → ⊥
-ran-other m n k a b e = let y : _≡_ {A = ℕ} 0 1 = cc in omega arith
+ran-other : (m n k u a b : ℕ) → Ran m n k u ≡ Refused a b → ⊥
+ran-other m n k u a b e = let y : _≡_ {A = ℕ} 0 1 = cc in omega arith
 
 module _ (T s s′ : List ℕ) (p f : ℕ) where
   pub load-refused : LoadCall T s (Refused p f) s′ → s′ ≡ s
@@ -70,11 +70,11 @@ module _ (T s s′ : List ℕ) (p f : ℕ) where
   run-refused budget out out′ c =
       let m = runMoves T s budget (length out) in
       let d = runAnswer T s budget (length out) m in (
-        run-store T s budget out c ∙ refused-keeps (judge T) (storeRefusal T (shapeOf T) s) p f d s _ (ran-other _ _ _) (c .answer),
-        «output-is» T s budget out c ∙ refused-keeps (judge T) (storeRefusal T (shapeOf T) s) p f d out _ (ran-other _ _ _) (c .answer),
+        run-store T s budget out c ∙ refused-keeps (judge T) (storeRefusal T (shapeOf T) s) p f d s _ (ran-other _ _ _ _) (c .answer),
+        «output-is» T s budget out c ∙ refused-keeps (judge T) (storeRefusal T (shapeOf T) s) p f d out _ (ran-other _ _ _ _) (c .answer),
       )
 
--- ---- "Words past the need are never touched"; now and the overwritten count never fall. Load begins them anew
+-- ---- "Words past the need are never touched"; now and both counts never fall. Load begins them anew
 module _ (T s s′ : List ℕ) where
   -- the shape of the table that the call has checked
   abbrev S : Shape
@@ -163,11 +163,11 @@ module _ (T s s′ : List ℕ) where
       let z = or-else-none (storeRefusal T S s) (eventRefusal T S s o birth values) (w .call) in
       formed-tests T S s′ (arrival-step T (w .table) (asFound S s) empty s (found-holds T S s (store-formed T S s (z .0))) s′ o birth values Done c .holds .formed)
 
-  pub run-formed : (budget : ℕ) (out out′ : List ℕ) (m b n : ℕ) → RunCall T s budget out (Ran m b n) s′ out′ → wellFormed T (shapeOf T) s′ ≡ true
-  run-formed budget out out′ m b n c =
+  pub run-formed : (budget : ℕ) (out out′ : List ℕ) (m b n u : ℕ) → RunCall T s budget out (Ran m b n u) s′ out′ → wellFormed T (shapeOf T) s′ ≡ true
+  run-formed budget out out′ m b n u c =
       let S = shapeOf T in
-      let w = ran-means (judge T) (storeRefusal T S s) m b n _ (c .answer) in
-      formed-tests T S s′ (run-step T (w .table) (asFound S s) empty s (found-holds T S s (store-formed T S s (w .call))) s′ out out′ budget (Ran m b n) c .holds .formed)
+      let w = ran-means (judge T) (storeRefusal T S s) m b n u _ (c .answer) in
+      formed-tests T S s′ (run-step T (w .table) (asFound S s) empty s (found-holds T S s (store-formed T S s (w .call))) s′ out out′ budget (Ran m b n u) c .holds .formed)
 
 -- ---- progress: a run that has budget left over stops for want of a move (1) or of room (3)
 stop-why : (a b : Bool) → both a b ≡ false → (_≡_ {A = ℕ} (pick a (pick b 2 3) 1) 1) ⊎ (_≡_ {A = ℕ} (pick a (pick b 2 3) 1) 3)
@@ -175,15 +175,15 @@ stop-why true true e = absurd (let z : _≡_ {A = ℕ} 0 1 = ap (λ (x : Bool). 
 stop-why true false e = inr refl
 stop-why false b e = inl refl
 
-pub progress : (T s : List ℕ) (budget : ℕ) (out s′ out′ : List ℕ) (m b n : ℕ) → RunCall T s budget out (Ran m b n) s′ out′ → m < budget → (n ≡ 1) ⊎ (n ≡ 3)
+pub progress : (T s : List ℕ) (budget : ℕ) (out s′ out′ : List ℕ) (m b n u : ℕ) → RunCall T s budget out (Ran m b n u) s′ out′ → m < budget → (n ≡ 1) ⊎ (n ≡ 3)
 unfolding made continues stopAfter
-progress T s budget out s′ out′ m b n c l =
+progress T s budget out s′ out′ m b n u c l =
     let S = shapeOf T in
     let t = nowOf s in
     let room = length out in
     let k = runMoves T s budget room in
-    let w = ran-means (judge T) (storeRefusal T S s) m b n (runAnswer T s budget room k) (c .answer) in
-    let e : Ran m b n ≡ runAnswer T s budget room k = w .is in
+    let w = ran-means (judge T) (storeRefusal T S s) m b n u (runAnswer T s budget room k) (c .answer) in
+    let e : Ran m b n u ≡ runAnswer T s budget room k = w .is in
     let em : m ≡ k = ap movesOf e in
     let en : n ≡ stopAfter T S t room s k = ap stopOf e in
     let h = held (continues T S t room s) budget .stopped (omega arith) in

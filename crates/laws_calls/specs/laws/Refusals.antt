@@ -2,6 +2,7 @@
 use mathlib.Core.Path.{_≡_, refl}
 use mathlib.Core.List.{List}
 use mathlib.Core.Bool.{Bool, true, false}
+use mathlib.Core.Logic.{_⊎_, inl, inr}
 use Prim.Native.Nat.{ℕ, _≤_}
 use native.Mathlib.Omega.{arith}
 use lib.Dec.{eqb, ltb}
@@ -17,6 +18,7 @@ use Rattle.rules_calls.specs.Calls.{wrongTime, beyondDue, ofSource, valueCount}
 use Rattle.rules_calls.specs.declared.Answer.{Answer}
 use Rattle.rules_calls.specs.declared.Answer.the-variants.{Refused, Done, Ran}
 use Rattle.rules_calls.specs.Answer.{answerBy}
+use Rattle.rules_calls.specs.Public.{countBy}
 use Rattle.rules_calls.specs.Refusals.{loadRefusal, storeRefusal, orElse, timeRefusal, eventRefusal}
 use Rattle.rules_store.specs.Formed.{Formed}
 use Rattle.rules_store.specs.laws.WellFormed.{formed-means}
@@ -30,13 +32,22 @@ done-means accepted q e = by (eqb q 0) refl e
     by false z d = absurd (let y : _≡_ {A = ℕ} 0 1 = cc in omega arith)
 done-means (refused p f) q e = absurd (let y : _≡_ {A = ℕ} 0 1 = cc in omega arith)
 
-pub ran-means : (v : Verdict) (q m b n : ℕ) (d : Answer) → Ran m b n ≡ answerBy v q d → Running v q (Ran m b n) d
-ran-means accepted q m b n d e = by (eqb q 0) refl e
+pub ran-means : (v : Verdict) (q m b n u : ℕ) (d : Answer) → Ran m b n u ≡ answerBy v q d → Running v q (Ran m b n u) d
+ran-means accepted q m b n u d e = by (eqb q 0) refl e
   where
-    by : (c : Bool) → eqb q 0 ≡ c → Ran m b n ≡ pick c d (Refused q 0) → Running accepted q (Ran m b n) d
+    by : (c : Bool) → eqb q 0 ≡ c → Ran m b n u ≡ pick c d (Refused q 0) → Running accepted q (Ran m b n u) d
     by true z x = record { table = refl; call = eqb-true q 0 z; is = x }
     by false z x = absurd (let y : _≡_ {A = ℕ} 0 1 = cc in omega arith)
-ran-means (refused p f) q m b n d e = absurd (let y : _≡_ {A = ℕ} 0 1 = cc in omega arith)
+ran-means (refused p f) q m b n u d e = absurd (let y : _≡_ {A = ℕ} 0 1 = cc in omega arith)
+
+-- a count of a call: what it would be, where nothing refuses the call, or 0
+pub count-cases : (v : Verdict) (q n : ℕ) → ((v ≡ accepted) × (q ≡ 0) × (countBy v q n ≡ n)) ⊎ (countBy v q n ≡ 0)
+count-cases (refused p f) q n = inr refl
+count-cases accepted q n = by (eqb q 0) refl
+  where
+    by : (b : Bool) → eqb q 0 ≡ b → ((accepted ≡ accepted) × (q ≡ 0) × (pick b n 0 ≡ n)) ⊎ (pick b n 0 ≡ 0)
+    by true e = inl (refl, eqb-true q 0 e, refl)
+    by false e = inr refl
 
 -- ---- the refusals that are none
 pub load-none : (S : Shape) (s : List ℕ) → loadRefusal S s ≡ 0 → need S ≤ length s

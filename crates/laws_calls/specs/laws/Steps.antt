@@ -2,7 +2,7 @@
 use mathlib.Core.Path.{_≡_, refl, ap, _∙_}
 use mathlib.Core.List.{List}
 use mathlib.Core.Bool.{Bool, true, false}
-use Prim.Native.Nat.{ℕ}
+use Prim.Native.Nat.{ℕ, _≤_}
 use native.Mathlib.Omega.{arith}
 use lib.Dec.{eqb}
 use lib.ListN.{length}
@@ -11,7 +11,7 @@ use Rattle.rules_walks.specs.Choose.{choose}
 use Rattle.rules_tables.specs.declared.Shape.{Shape}
 use Rattle.rules_tables.specs.Judge.{Verdict, accepted, judge, shapeOf}
 use Rattle.rules_tables.specs.laws.Accepted.{accepted-means}
-use Rattle.rules_store.specs.Word.{nowOf}
+use Rattle.rules_store.specs.Word.{nowOf, untrue}
 use Rattle.rules_store.specs.Part.{time, just}
 use Rattle.rules_store.specs.laws.Writer.{leaves-now}
 use Rattle.rules_store.specs.laws.Own.{now-put}
@@ -30,15 +30,17 @@ use Rattle.laws_log.specs.Holds.{Holds}
 use Rattle.laws_log.specs.Goes.{Onward}
 use Rattle.laws_log.specs.laws.Moves.{run-goes}
 use Rattle.laws_log.specs.laws.Calls.{advance-goes, advance-later, arrival-goes}
+use Rattle.laws_log.specs.laws.Untrue.{after-grows, advanced-untrue, arrived-untrue}
 use Rattle.rules_log.specs.Sequence.{unless, logAdvance, logArrival, logRun}
 use Rattle.laws_calls.specs.laws.Refusals.{or-else-none, time-none, event-none}
 use Rattle.laws_calls.specs.Steps.{Steady, Step}
 
 pub steady-all : (S : Shape) (s : List ℕ) → Steady S s s
-steady-all S s = record { long = refl; past = λ p h. refl; later = omega arith; grows = omega arith }
+steady-all S s = record { long = refl; past = λ p h. refl; later = omega arith; grows = omega arith; untrue-grows = omega arith }
 
-onward-steady : (T : List ℕ) (S : Shape) (s s′ : List ℕ) → Onward T S s s′ → Steady S s s′
-onward-steady T S s s′ w = record { long = w .leaves .long; past = w .leaves .past; later = let n = w .leaves .now refl in omega arith; grows = w .grows }
+onward-steady : (T : List ℕ) (S : Shape) (s s′ : List ℕ) → Onward T S s s′ → untrue s ≤ untrue s′ → Steady S s s′
+onward-steady T S s s′ w u =
+    record { long = w .leaves .long; past = w .leaves .past; later = let n = w .leaves .now refl in omega arith; grows = w .grows; untrue-grows = u }
 
 module _ (T : List ℕ) (v : judge T ≡ accepted) (B : Begun) (l : Log) (s : List ℕ) (h : Holds T (shapeOf T) B l s) where
   pub knows : Lawful T (shapeOf T)
@@ -68,9 +70,10 @@ module _ (T : List ℕ) (v : judge T ≡ accepted) (B : Begun) (l : Log) (s : Li
       let m = o .now refl in
       let d = u .counted refl in
       let gr = g .onward .grows in
+      let un = advanced-untrue T S knows t s in
       record {
         holds = g .holds;
-        steady = record { long = o .long ∙ u .long; past = λ p b. o .past p b ∙ u .past p b; later = omega arith; grows = omega arith };
+        steady = record { long = o .long ∙ u .long; past = λ p b. o .past p b ∙ u .past p b; later = omega arith; grows = omega arith; untrue-grows = omega arith };
       })
 
   pub arrival-step : (s′ : List ℕ) (o birth : ℕ) (values : List ℕ) (r : Answer) → ArrivalCall T s o birth values r s′ → Step T B s (logArrival T s o birth values l) s′
@@ -81,7 +84,7 @@ module _ (T : List ℕ) (v : judge T ≡ accepted) (B : Begun) (l : Log) (s : Li
       (λ e.
       let b = event-none T S s o birth values (or-else-none (storeRefusal T S s) (eventRefusal T S s o birth values) e .1) in
       let g = arrival-goes T S B knows l s h o birth values b in
-      record { holds = g .holds; steady = onward-steady T S s (arrived T S o birth values s) (g .onward) })
+      record { holds = g .holds; steady = onward-steady T S s (arrived T S o birth values s) (g .onward) (let un = arrived-untrue T S knows o birth values s in omega arith) })
 
   pub run-step : (s′ out out′ : List ℕ) (budget : ℕ) (r : Answer) → RunCall T s budget out r s′ out′ → Step T B s (logRun T s budget out l) s′
   run-step s′ out out′ budget r c =
@@ -90,4 +93,4 @@ module _ (T : List ℕ) (v : judge T ≡ accepted) (B : Begun) (l : Log) (s : Li
       either-way (storeRefusal T S s) (runLog T S (nowOf s) m s l) (after T S (nowOf s) m s) s′ (run-store T s budget out c)
       (λ e.
       let g = run-goes T S B knows s l m h in
-      record { holds = g .holds; steady = onward-steady T S s (after T S (nowOf s) m s) (g .onward) })
+      record { holds = g .holds; steady = onward-steady T S s (after T S (nowOf s) m s) (g .onward) (after-grows T S knows s (h .formed) m) })

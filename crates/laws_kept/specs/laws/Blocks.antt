@@ -13,7 +13,7 @@ use Rattle.rules_store.specs.declared.Running.{Running}
 use Rattle.rules_tables.specs.Ids.{elements, inputs, inputFrame, transitions, transitionFrame, stateFrame}
 use Rattle.rules_store.specs.Running.{rest, awake, entered, charting}
 use Rattle.rules_store.specs.Word.{largestDue, largestTime, nowOf, putNow, runningElement, currentEvent, putOwner, runningOf, putRunning, chartState, putChartState, dueFlag, dueTime, putDue}
-use Rattle.rules_store.specs.Part.{time, block, chart, due, computed, just, SameBlock, Leaves}
+use Rattle.rules_store.specs.Part.{time, block, chart, due, just, calm, SameBlock, Leaves}
 use Rattle.rules_store.specs.laws.Writer.{leaves-now, leaves-owner, leaves-running, leaves-chart, leaves-due}
 use Rattle.rules_store.specs.Own.{Due}
 use Rattle.rules_store.specs.laws.Own.{now-put, element-put, event-put, running-put, element-running, event-running, chart-put, chart-other, due-put, due-other}
@@ -25,10 +25,10 @@ use Rattle.rules_store.specs.Formed.{DueFact, ChartFact, Parts, Mode, Owner, Bu
 use Rattle.laws_kept.specs.laws.Keeping.{due-same, same-charts, same-dues, same-event, same-buffers, kept-parts, calm-parts, busy-block, rest-block, same-rest, same-blocked, entered-mode}
 
 module _ (T : List ℕ) (S : Shape) where
-  -- nothing that has facts is touched: values that are no inputs
-  pub calm-formed : (s s′ : List ℕ) → Leaves T S (just computed) s s′ → Formed T S s → Formed T S s′
+  -- nothing that has facts is touched
+  pub calm-formed : (s s′ : List ℕ) → Leaves T S calm s s′ → Formed T S s → Formed T S s′
   calm-formed s s′ w g =
-      record { parts = calm-parts T S (just computed) s s′ w (g .parts) refl refl refl refl refl; block = same-blocked T S (just computed) s s′ w refl refl refl (g .block) }
+      record { parts = calm-parts T S calm s s′ w (g .parts) refl refl refl refl refl; block = same-blocked T S calm s s′ w refl refl refl (g .block) }
 
   -- ---- the running block
   parts-running : (r : Running) (s : List ℕ) → Parts T S s → Parts T S (putRunning r s)

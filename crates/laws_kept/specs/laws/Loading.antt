@@ -20,7 +20,7 @@ use Rattle.rules_tables.specs.declared.Shape.{Shape}
 use Rattle.rules_tables.specs.Ids.{elements, inputs, variables, variableFrame}
 use Rattle.rules_store.specs.Layout.{need}
 use Rattle.rules_store.specs.Running.{rest}
-use Rattle.rules_store.specs.Word.{runningOf, chartState, putChartState, waiting, value, putValue, buffer, putBuffer}
+use Rattle.rules_store.specs.Word.{runningOf, untrue, chartState, putChartState, waiting, value, putValue, buffer, putBuffer}
 use Rattle.rules_store.specs.laws.Word.{buffer-putBuffer, buffer-putValue, value-putBuffer, value-putValue}
 use Rattle.rules_store.specs.Part.{Part, chart, sampled, computed, buffered, just, also, everything, Leaves}
 use Rattle.rules_store.specs.laws.Part.{leaves-all, leaves-then}
@@ -222,6 +222,9 @@ module _ (T : List ℕ) (S : Shape) where
 
     pub loaded-rests : (i : ℕ) → i < inputs S → waiting S (loaded T S s) i ≡ 0
     loaded-rests i l = load-leaves .waits refl i l .waits ∙ set-leaves .waits refl i l .waits ∙ clear .events i l .0
+
+    pub loaded-untrue : untrue (loaded T S s) ≡ 0
+    loaded-untrue = load-leaves .untrue-same refl ∙ set-leaves .untrue-same refl ∙ clear .untrue-none
 
     pub loaded-idle : runningOf (loaded T S s) ≡ rest
     loaded-idle = load-leaves .running refl .running ∙ set-leaves .running refl .running ∙ clear .running

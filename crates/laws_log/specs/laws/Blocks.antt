@@ -16,7 +16,7 @@ use Rattle.rules_store.specs.declared.Running.{Running}
 use Rattle.rules_tables.specs.Ids.{elements, transitions, steps, transitionFrame, actionFrame, stepFrame}
 use Rattle.rules_store.specs.Running.{rest, entered, stepped, charting}
 use Rattle.rules_store.specs.Word.{nowOf, runningElement, currentEvent, putOwner, runningOf, putRunning, chartState, putChartState}
-use Rattle.rules_store.specs.Part.{count, input, buffered, computed, just, also, everything}
+use Rattle.rules_store.specs.Part.{count, input, buffered, just, also, calm, everything}
 use Rattle.rules_store.specs.laws.Writer.{leaves-owner, leaves-running, leaves-chart}
 use Rattle.rules_store.specs.laws.Own.{running-put}
 use Rattle.rules_moves.specs.Chart.{heard, guardHolds, enabled, transitionOf, change, goIdle, elementOf, stateOf}
@@ -104,12 +104,12 @@ module _ (T : List ℕ) (S : Shape) (B : Begun) (k : Lawful T S) (s₀ : List �
       step-goes i st =
           let li : i < steps S = (let h = k .is-good .action-steps (st .action) (r .step) (action-below T S q (r .action) (st .action) (st .found)) (st .left) in let e = st .is in omega arith) in
           let y = oneStep T S (stepFrame S i) (t - r .birth) s in
-          let w = one-step-leaves T S k (just computed) refl i (t - r .birth) s li in
+          let w = one-step-leaves T S k calm refl refl i (t - r .birth) s li in
           let u = w .running refl in
           let ch = w .charts refl (elementOf s) (let a = b .owner .element in let d = b .owner .within in omega arith) in
           let m = ap (λ (x : Running). x .mode) (u .running) in
           let bi = ap (λ (x : Running). x .birth) (u .running) in
-          rerun-goes l y (calm-goes T S B k s₀ l s g y (λ f c. one-step-leaves T S k f c i (t - r .birth) s li)) (stepped r) (rw (u .element, u .event) (b .owner))
+          rerun-goes l y (calm-goes T S B k s₀ l s g y (λ f c y. one-step-leaves T S k f c y i (t - r .birth) s li)) (stepped r) (rw (u .element, u .event) (b .owner))
           (λ z. busy (sym m ∙ z)) (sym bi) (rw (bi, w .now refl) (b .born)) (rw (u .element, ch) (next (st .action) (st .found) (st .left)))
         where
           next : (j : ℕ) → actionOf T S q (r .action) ≡ one j → r .step < fieldAt T (actionFrame S j) 2 → Mode T S (stepped r) q

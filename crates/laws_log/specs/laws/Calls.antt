@@ -92,7 +92,7 @@ module _ (T : List ℕ) (S : Shape) (B : Begun) (k : Lawful T S) where
     unfolding arrivalLog arrived
     arrival-goes o birth values b =
         let x = upTo (give T S o values) (associations S) s in
-        let g = calm-goes T S B k s l s (goes-start T S B k s l h) x (λ f c. gives-leaves T S k f c o values s) in
+        let g = calm-goes T S B k s l s (goes-start T S B k s l h) x (λ f c _. gives-leaves T S k f c o values s) in
         fire-goes T S B k s l x g o (begins birth) birth (nowOf s) (goes-now T S B k s l x g) b refl
 
     pub advance-later : (t : ℕ) → wrongTime s t ≡ false → nowOf s ≤ t

@@ -10,7 +10,7 @@ use Rattle.rules_tables.specs.declared.Shape.{Shape}
 use Rattle.rules_store.specs.declared.Running.{Running}
 use Rattle.rules_tables.specs.Ids.{inputs}
 use Rattle.rules_store.specs.Word.{nowOf, runningOf, waiting, lastUpdate}
-use Rattle.rules_store.specs.Part.{Part, time, block, count, chart, due, input, sampled as «samples-part», computed, buffered, Leaves, just}
+use Rattle.rules_store.specs.Part.{Part, time, block, count, untrues, chart, due, input, sampled as «samples-part», computed, buffered, Leaves, calm}
 use Rattle.rules_store.specs.laws.Part.{leaves-all, leaves-then, leaves-less}
 use Rattle.rules_moves.specs.Fire.{fire}
 use Rattle.rules_moves.specs.Take.{sampled, fireFound}
@@ -30,6 +30,7 @@ abbrev uncounted : Part → Bool
 uncounted time = false
 uncounted block = true
 uncounted count = false
+uncounted untrues = true
 uncounted chart = true
 uncounted due = true
 uncounted input = true
@@ -42,6 +43,7 @@ quiet-less : (p : Part) → uncounted p ≡ false → quiet p ≡ false
 quiet-less time e = refl
 quiet-less block e = clash (sym e)
 quiet-less count e = refl
+quiet-less untrues e = clash (sym e)
 quiet-less chart e = clash (sym e)
 quiet-less due e = clash (sym e)
 quiet-less input e = clash (sym e)
@@ -53,6 +55,7 @@ still-less : (p : Part) → still p ≡ false → uncounted p ≡ false
 still-less time e = refl
 still-less block e = clash (sym e)
 still-less count e = clash (sym e)
+still-less untrues e = clash (sym e)
 still-less chart e = clash (sym e)
 still-less due e = clash (sym e)
 still-less input e = clash (sym e)
@@ -105,11 +108,11 @@ module _ (T : List ℕ) (S : Shape) (B : Begun) (k : Lawful T S) (s₀ : List �
           onward = onward-uncounted s s′ (leaves-less T S quiet uncounted s s′ quiet-less w) (g .onward);
         }
 
-    -- values that are no inputs
-    pub calm-goes : (s′ : List ℕ) → ((f : Part → Bool) → f computed ≡ true → Leaves T S f s s′) → Goes T S B s₀ l s′
+    -- values that are no inputs, and the count of untrue steps
+    pub calm-goes : (s′ : List ℕ) → ((f : Part → Bool) → f computed ≡ true → f untrues ≡ true → Leaves T S f s s′) → Goes T S B s₀ l s′
     calm-goes s′ w =
-        let r = w (just computed) refl .running refl .running in
-        quiet-goes s′ (w quiet refl) (calm-formed T S s s′ (w (just computed) refl) (g .holds .formed))
+        let r = w calm refl refl .running refl .running in
+        quiet-goes s′ (w quiet refl refl) (calm-formed T S s s′ (w calm refl refl) (g .holds .formed))
         (λ n. ap (λ (x : Running). born (x .birth)) r ∙ g .holds .births .running-born (λ z. n (ap (λ (x : Running). x .mode) r ∙ z)))
 
     pub goes-now : nowOf s ≡ nowOf s₀

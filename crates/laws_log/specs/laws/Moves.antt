@@ -12,8 +12,10 @@ use Rattle.rules_moves.specs.Means.{Means}
 use Rattle.rules_moves.specs.laws.Next.{next-means}
 use Rattle.rules_calls.specs.Run.{after}
 use Rattle.rules_tables.specs.Lawful.{Lawful}
-use Rattle.rules_log.specs.Log.{Log, moveLog, runLog}
-use Rattle.rules_log.specs.Origin.{Begun}
+use Rattle.rules_log.specs.Log.{Log, empty, moveLog, runLog}
+use Rattle.rules_log.specs.Origin.{Begun, asFound}
+use Rattle.rules_store.specs.Formed.{Formed}
+use Rattle.laws_log.specs.laws.Holds.{found-holds}
 use Rattle.laws_log.specs.Holds.{Holds}
 use Rattle.laws_log.specs.Goes.{Goes}
 use Rattle.laws_log.specs.laws.Goes.{goes-start, goes-now}
@@ -42,3 +44,7 @@ module _ (T : List ℕ) (S : Shape) (B : Begun) (k : Lawful T S) (s₀ : List �
   run-goes l (suc n) h =
       let g = run-goes l n h in
       move-goes (runLog T S (nowOf s₀) n s₀ l) (after T S (nowOf s₀) n s₀) g (nowOf s₀) (goes-now T S B k s₀ (runLog T S (nowOf s₀) n s₀ l) (after T S (nowOf s₀) n s₀) g)
+
+-- each store of a run is well formed
+pub formed-after : (T : List ℕ) (S : Shape) → Lawful T S → (n : ℕ) (s : List ℕ) → Formed T S s → Formed T S (after T S (nowOf s) n s)
+formed-after T S k n s f = run-goes T S (asFound S s) k s empty n (found-holds T S s f) .holds .formed

@@ -115,7 +115,7 @@ module _ (T : List ℕ) (S : Shape) (B : Begun) (k : Lawful T S) (s₀ : List �
 
   -- ---- interface
   passes-on : Goes T S B s₀ l′ (passes T S i y)
-  passes-on = calm-goes T S B k s₀ l′ y go (passes T S i y) (λ p c. passes-leaves T S k p c i y)
+  passes-on = calm-goes T S B k s₀ l′ y go (passes T S i y) (λ p c _. passes-leaves T S k p c i y)
 
   -- ---- delay
   delays : flagAt T el ≡ delay → Goes T S B s₀ l′ (startStop T S el i t y)

@@ -9,7 +9,7 @@ use Rattle.rules_tables.specs.Frame.{Table}
 use Rattle.rules_tables.specs.Judge.{judge, shapeOf}
 use Rattle.rules_store.specs.Word.{Store, nowOf}
 use Rattle.rules_calls.specs.Run.{after, bytes}
-use Rattle.rules_calls.specs.Answer.{movesOf, stopOf, bytesOf}
+use Rattle.rules_calls.specs.Answer.{movesOf, stopOf, untrueOf, bytesOf}
 use Rattle.rules_calls.specs.Refusals.{loadRefusal}
 use Rattle.rules_calls.specs.Public.{countBy}
 use Rattle.rules_calls.specs.Exports.{packed}
@@ -34,8 +34,8 @@ module _ {T : Table} {s : Store} {s′ s″ : Store} where
           c .trace-is ∙ ap (λ (k : ℕ). sets tr 0 (trace T (shapeOf T) (nowOf s) k s)) m ∙ sym (d .trace-is),
         )
 
-    pub one-traced-told : {r q m m′ n n′ k k′ l l′ : ℕ} → TracedTold T s budget out tr r m n k l s′ out′ tr′ → TracedTold T s budget out tr q m′ n′ k′ l′ s″ out″ tr″
-        → (r ≡ q) × (m ≡ m′) × (n ≡ n′) × (k ≡ k′) × (l ≡ l′) × (s′ ≡ s″) × (out′ ≡ out″) × (tr′ ≡ tr″)
+    pub one-traced-told : {r q m m′ n n′ k k′ l l′ u u′ : ℕ} → TracedTold T s budget out tr r m n k l u s′ out′ tr′ → TracedTold T s budget out tr q m′ n′ k′ l′ u′ s″ out″ tr″
+        → (r ≡ q) × (m ≡ m′) × (n ≡ n′) × (k ≡ k′) × (l ≡ l′) × (u ≡ u′) × (s′ ≡ s″) × (out′ ≡ out″) × (tr′ ≡ tr″)
     one-traced-told x y =
         let w = one-traced (x .call) (y .call) in (
           x .number ∙ ap (λ (a : Traced). packed (a .answer)) (w .0) ∙ sym (y .number),
@@ -43,6 +43,7 @@ module _ {T : Table} {s : Store} {s′ s″ : Store} where
           x .stopped ∙ ap (λ (a : Traced). stopOf (a .answer)) (w .0) ∙ sym (y .stopped),
           x .bytes-written ∙ ap (λ (a : Traced). bytesOf (a .answer)) (w .0) ∙ sym (y .bytes-written),
           x .trace-written ∙ ap (λ (a : Traced). a .traced) (w .0) ∙ sym (y .trace-written),
+          x .untrue-made ∙ ap (λ (a : Traced). untrueOf (a .answer)) (w .0) ∙ sym (y .untrue-made),
           w .1,
           w .2,
           w .3,

@@ -27,7 +27,7 @@ use Rattle.rules_calls.specs.Answer.{movesOf}
 use Rattle.rules_calls.specs.Refusals.{loadRefusal, storeRefusal}
 use Rattle.rules_calls.specs.Public.{countBy}
 use Rattle.rules_sessions.specs.Text.{lineOf}
-use Rattle.laws_calls.specs.laws.Refusals.{store-formed}
+use Rattle.laws_calls.specs.laws.Refusals.{count-cases, store-formed}
 use Rattle.rules_traces.specs.declared.Entry.{Entry}
 use Rattle.rules_traces.specs.declared.Traced.{Traced}
 use Rattle.rules_traces.specs.declared.Shown.{Shown}
@@ -92,14 +92,6 @@ count-none accepted q = by (eqb q 0)
     by : (b : Bool) → _≡_ {A = ℕ} (pick b 0 0) 0
     by true = refl
     by false = refl
-
-pub count-cases : (v : Verdict) (q n : ℕ) → ((v ≡ accepted) × (q ≡ 0) × (countBy v q n ≡ n)) ⊎ (countBy v q n ≡ 0)
-count-cases (refused p f) q n = inr refl
-count-cases accepted q n = by (eqb q 0) refl
-  where
-    by : (b : Bool) → eqb q 0 ≡ b → ((accepted ≡ accepted) × (q ≡ 0) × (pick b n 0 ≡ n)) ⊎ (pick b n 0 ≡ 0)
-    by true e = inl (refl, eqb-true q 0 e, refl)
-    by false e = inr refl
 
 module _ (T : Table) (s : Store) where
   abbrev S : Shape
@@ -224,11 +216,11 @@ module _ (T : Table) (s : Store) where
           accepted-or-none
 
 -- ---- the same for hosts in C, by what is told through their pointers
-pub host-reads-back : (T : Table) (s : Store) (budget : ℕ) (out tr : List ℕ) (n moves stop bytes traced : ℕ) (s′ : Store) (out′ tr′ : List ℕ)
-    → TracedTold T s budget out tr n moves stop bytes traced s′ out′ tr′ → Words s
+pub host-reads-back : (T : Table) (s : Store) (budget : ℕ) (out tr : List ℕ) (n moves stop bytes traced untrue : ℕ) (s′ : Store) (out′ tr′ : List ℕ)
+    → TracedTold T s budget out tr n moves stop bytes traced untrue s′ out′ tr′ → Words s
     → (frames p shown line : ℕ) (x : Store) → traced / 12 ≤ frames → ShowTold T s (bytesLines (take traced tr′)) frames p shown line x
     → (line ≡ 0) × (12 * shown ≡ traced) × Alike (shapeOf T) x s′
-host-reads-back T s budget out tr n moves stop bytes traced s′ out′ tr′ c words frames p shown line x enough d =
+host-reads-back T s budget out tr n moves stop bytes traced untrue s′ out′ tr′ c words frames p shown line x enough d =
     let e = c .trace-written in
     let w = reads-back T s budget out tr (c .answer) s′ out′ tr′ (c .call) words frames (d .answer) x (rw e at enough) (rw e at (d .call)) in
     (d .ended-by ∙ w .line, ap (λ (k : ℕ). 12 * k) (d .frames-read) ∙ w .frames ∙ sym e, w .alike)

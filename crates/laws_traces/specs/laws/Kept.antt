@@ -3,31 +3,33 @@ use mathlib.Core.Path.{_≡_, refl, sym, ap, _∙_}
 use mathlib.Core.List.{List}
 use mathlib.Core.Bool.{Bool, true, false}
 use mathlib.Core.Logic.{⊎-elim}
-use Prim.Native.Nat.{ℕ}
+use Prim.Native.Nat.{ℕ, _+_, _≤_, _<_, min}
 use native.Mathlib.Omega.{arith}
 use lib.Dec.{eqb}
+use lib.ListN.{length}
 use lib.Seq.{sets}
 use Rattle.rules_walks.specs.Pick.{pick}
 use Rattle.rules_walks.specs.Walk.{upTo}
 use Rattle.rules_tables.specs.Frame.{Table}
 use Rattle.rules_tables.specs.declared.Shape.{Shape}
 use Rattle.rules_tables.specs.Judge.{Verdict, accepted, refused, judge, shapeOf}
-use Rattle.rules_store.specs.Word.{Store, nowOf}
+use Rattle.rules_store.specs.Word.{Store, countEnd, nowOf, untrue}
 use Rattle.rules_store.specs.Part.{Leaves}
 use Rattle.rules_store.specs.laws.Part.{leaves-all}
 use Rattle.rules_calls.specs.Run.{after, bytes}
 use Rattle.rules_calls.specs.declared.Answer.the-variants.{Refused, Done}
-use Rattle.rules_calls.specs.Answer.{movesOf, answerBy}
+use Rattle.rules_calls.specs.Answer.{movesOf, untrueOf, answerBy}
 use Rattle.rules_calls.specs.Refusals.{loadRefusal}
 use Rattle.rules_calls.specs.Public.{countBy}
 use Rattle.rules_traces.specs.declared.Traced.{Traced}
 use Rattle.rules_traces.specs.declared.Shown.{Shown}
 use Rattle.rules_traces.specs.Run.{trace}
 use Rattle.rules_traces.specs.Reader.{shownOf, shownAfter}
-use Rattle.rules_traces.specs.Public.{TracedCall, ShowCall}
+use Rattle.rules_traces.specs.Public.{tracedMoves, TracedCall, ShowCall}
 use Rattle.laws_traces.specs.Shows.{shownParts}
 use Rattle.laws_traces.specs.laws.Reading.{reader-leaves}
-use Rattle.laws_traces.specs.laws.Calls.{count-cases}
+use Rattle.laws_calls.specs.laws.Refusals.{count-cases}
+use Rattle.laws_calls.specs.laws.Untrue.{told-counts, told-difference}
 
 -- ---- "A refusal returns its number ..; nothing is written."
 pub traced-refused : (T : Table) (s : Store) (budget : ℕ) (out tr : List ℕ) (r : Traced) (s′ : Store) (out′ tr′ : List ℕ) (p f : ℕ) → TracedCall T s budget out tr r s′ out′ tr′
@@ -39,6 +41,14 @@ traced-refused T s budget out tr r s′ out′ tr′ p f c e =
       c .output ∙ ap (λ (n : ℕ). sets out 0 (bytes T (shapeOf T) (nowOf s) n s)) m,
       c .trace-is ∙ ap (λ (n : ℕ). sets tr 0 (trace T (shapeOf T) (nowOf s) n s)) m,
     )
+
+-- ---- it adds the untrue steps that it tells to the store's count of them, up to its end
+module _ (T : Table) (s : Store) (budget : ℕ) (out tr : List ℕ) (r : Traced) (s′ : Store) (out′ tr′ : List ℕ) (c : TracedCall T s budget out tr r s′ out′ tr′) where
+  pub traced-untrue : untrue s ≤ countEnd → untrue s′ ≡ min (untrue s + untrueOf (r .answer)) countEnd
+  traced-untrue = told-counts T s s′ (r .answer) (tracedMoves T s budget (length out) (length tr)) (c .tells .moves-are) (c .store) (c .tells .untrue-are)
+
+  pub traced-difference : untrue s ≤ countEnd → untrue s′ < countEnd → untrue s + untrueOf (r .answer) ≡ untrue s′
+  traced-difference = told-difference T s s′ (r .answer) (tracedMoves T s budget (length out) (length tr)) (c .tells .moves-are) (c .store) (c .tells .untrue-are)
 
 refused-none : (v : Verdict) (q n p f : ℕ) → Refused p f ≡ answerBy v q Done → countBy v q n ≡ 0
 refused-none (refused a b) q n p f e = refl

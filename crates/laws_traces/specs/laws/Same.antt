@@ -20,7 +20,7 @@ use Rattle.rules_tables.specs.Frame.{Table}
 use Rattle.rules_tables.specs.declared.Shape.{Shape}
 use Rattle.rules_tables.specs.Judge.{Verdict, accepted, refused, judge, shapeOf}
 use Rattle.rules_store.specs.Word.{Store, nowOf}
-use Rattle.rules_calls.specs.Run.{after, bytes, another, roomFor, continues, made, stopAfter}
+use Rattle.rules_calls.specs.Run.{after, bytes, untrueIn, another, roomFor, continues, made, stopAfter}
 use Rattle.rules_calls.specs.declared.Answer.{Answer}
 use Rattle.rules_calls.specs.declared.Answer.the-variants.{Refused, Ran}
 use Rattle.rules_calls.specs.Answer.{movesOf, answerBy}
@@ -200,7 +200,7 @@ module _ (T : Table) (s : Store) where
           (λ x y.
           let l = h x y in
           rw (made-same T S now s (length out) (length tr) budget l)
-          (ap (Ran n (length (bytes T S now n s))) (stop-same T S now s (length out) (length tr) n (has-room T S now s (length out) (length tr) n n l (omega arith)))))
+          (ap (λ (k : ℕ). Ran n (length (bytes T S now n s)) k (untrueIn T S now n s)) (stop-same T S now s (length out) (length tr) n (has-room T S now s (length out) (length tr) n n l (omega arith)))))
           ∙ sym (d .answer)
 
       same-all : r .answer ≡ a → (r .answer ≡ a) × (s′ ≡ s″) × (out′ ≡ out″)

@@ -16,6 +16,7 @@ use Rattle.rules_walks.specs.First.{Sought, one, missing}
 use Rattle.rules_numbers.specs.Word.{signed, word}
 use Rattle.rules_numbers.specs.laws.Word.{signed-low}
 use Rattle.rules_numbers.specs.Clip.{InRange}
+use Rattle.rules_numbers.specs.Truth.{outcome}
 use Rattle.rules_numbers.specs.laws.Operation.{operation-in-range}
 use Rattle.rules_tables.specs.Kind.{basic, interface, delay, ofInput}
 use Rattle.rules_tables.specs.Frame.{Table, flagAt, fieldAt}
@@ -27,7 +28,7 @@ use Rattle.rules_store.specs.declared.Running.{Running}
 use Rattle.rules_store.specs.Running.{charting}
 use Rattle.rules_store.specs.Layout.{need}
 use Rattle.rules_store.specs.Word.{Store, nowOf, runningOf, putRunning, birthOf, putInput, value, putValue, buffer, putBuffer}
-use Rattle.rules_store.specs.Part.{Part, block, count, chart as «charts», due, input, sampled as «samples-part», computed, buffered, just, also, everything, Leaves}
+use Rattle.rules_store.specs.Part.{Part, block, count, untrues, chart as «charts», due, input, sampled as «samples-part», computed, buffered, just, also, everything, Leaves}
 use Rattle.rules_store.specs.Formed.{Formed}
 use Rattle.rules_store.specs.laws.Own.{value-put, buffer-put}
 use Rattle.rules_store.specs.laws.Word.{value-putValue, value-putBuffer, buffer-putValue, buffer-putBuffer}
@@ -40,8 +41,8 @@ use Rattle.rules_moves.specs.laws.Firing.{connects-leaves}
 use Rattle.rules_moves.specs.Take.{sample, sampled, passTo, pass, passes, fireFound, startStop, wake, settle, settled, firedBy, taken}
 use Rattle.rules_moves.specs.laws.Taking.{wake-leaves, start-stop-leaves}
 use Rattle.rules_moves.specs.Chart.{elementOf}
-use Rattle.rules_moves.specs.Act.{oneStep, stepMove, eventOf, endMove}
-use Rattle.rules_moves.specs.laws.Moving.{change-leaves, idle-leaves}
+use Rattle.rules_moves.specs.Act.{stepOutcome, resultPut, untrueStep, oneStep, stepMove, eventOf, endMove}
+use Rattle.rules_moves.specs.laws.Moving.{change-leaves, idle-leaves, count-leaves}
 use Rattle.rules_moves.specs.declared.Next.{Next}
 use Rattle.rules_moves.specs.declared.Next.the-variants.{Take, Change, Idle, Step, End, Back, Nothing}
 use Rattle.rules_moves.specs.Next.{nextBy, nextOf, moveBy, move}
@@ -187,12 +188,13 @@ module _ (T : Table) (S : Shape) (k : Lawful T S) where
 
   -- ---- a step
   step-sized : (j age : ℕ) (s : Store) → j < steps S → age ≤ 2147483647 → Sized s → Sized (oneStep T S (stepFrame S j) age s)
-  unfolding oneStep
+  unfolding oneStep resultPut stepOutcome outcome
   step-sized j age s l b h =
       let f = stepFrame S j in
       let x = signed-in (value S s (fieldAt T f 1)) in
       let y = signed-in (value S s (fieldAt T f 2)) in
-      value-sized (fieldAt T f 0) _ s (g .step-result j l) (word-small _ (operation-in-range (flagAt T f) x y (pos-in age b))) h
+      left-sized (just untrues) _ _ (count-leaves T S k (just untrues) refl (untrueStep T S f age s) _) refl refl refl
+      (value-sized (fieldAt T f 0) _ s (g .step-result j l) (word-small _ (operation-in-range (flagAt T f) x y (pos-in age b))) h)
 
   -- ---- a move, by what comes next
   module _ (s : Store) (f : Formed T S s) (t : ℕ) (now-is : nowOf s ≡ t) (h : Sized s) where

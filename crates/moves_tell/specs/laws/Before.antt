@@ -24,7 +24,7 @@ use Rattle.rules_store.specs.Word.{runningOf, putRunning, value, putValue}
 use Rattle.rules_moves.specs.Partner.{inputOwner, variableOwner, partnerVariable}
 use Rattle.rules_moves.specs.laws.Carry.{of-input}
 use Rattle.rules_moves.specs.Chart.{elementOf, stateOf}
-use Rattle.rules_moves.specs.Act.{oneStep, stepMove}
+use Rattle.rules_moves.specs.Act.{resultPut, untrueStep, countUntrue, oneStep, stepMove}
 use Rattle.rules_moves.specs.Take.{taken}
 use Rattle.rules_moves.specs.Ready.{Ready}
 use Rattle.rules_moves.specs.laws.Next.{ready-input, ready-step}
@@ -128,7 +128,10 @@ module _ (T : List ℕ) (S : Shape) (k : Traceable T S) (time : ℕ) (s : List �
     abbrev value-now : ℕ
     value-now = resultOf T S (stepFrame S j) age s
 
-    step-is : changes T S s (putRunning r (putValue S result value-now s)) ≡ stepEntries T S (stepFrame S j) age s
+    abbrev put : List ℕ
+    put = putRunning r (countUntrue (untrueStep T S (stepFrame S j) age s) (putValue S result value-now s))
+
+    step-is : changes T S s put ≡ stepEntries T S (stepFrame S j) age s
     unfolding stepEntries resultEntry resultKind choose
     step-is = by (eqb (flagAt T (variableFrame S result)) internal) refl
       where
@@ -139,18 +142,18 @@ module _ (T : List ℕ) (S : Shape) (k : Traceable T S) (time : ℕ) (s : List �
         in-range = k .is-lawful .is-good .step-result j l
 
         by : (c : Bool) → eqb (flagAt T (variableFrame S result)) internal ≡ c
-            → changes T S s (putRunning r (putValue S result value-now s)) ≡ differing (value S s result) (entry (choose c internalKind outputKind) (variableOwner T S result) result value-now)
-        by true e = internal-changes T S (k .is-lawful) s long result value-now r in-range (eqb-true _ internal e)
+            → changes T S s put ≡ differing (value S s result) (entry (choose c internalKind outputKind) (variableOwner T S result) result value-now)
+        by true e = internal-changes T S (k .is-lawful) s long result value-now _ r in-range (eqb-true _ internal e)
         by false e =
             let few = k .roles result in-range in
             let no = k .is-lawful .result-other j l in
             let other = eqb-false (flagAt T (variableFrame S result)) internal e in
-            output-changes T S (k .is-lawful) s long result value-now r in-range (one-of (flagAt T (variableFrame S result)) few no other)
+            output-changes T S (k .is-lawful) s long result value-now _ r in-range (one-of (flagAt T (variableFrame S result)) few no other)
 
   -- ---- every move
   module _ (next : Next) (ready : Ready S next) (running : (j : ℕ) → next ≡ Change j → elementOf s < elements S) where
     changes-is : changes T S s (moveBy T S time next s) ≡ changesBefore T S time next s
-    unfolding moveBy changesBefore changeEntries stepMove oneStep resultOf
+    unfolding moveBy changesBefore changeEntries stepMove oneStep resultPut resultOf
     changes-is = by next refl
       where
         by : (n : Next) → next ≡ n → changes T S s (moveBy T S time n s) ≡ changesBefore T S time n s

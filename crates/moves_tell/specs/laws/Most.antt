@@ -31,7 +31,7 @@ use Rattle.rules_store.specs.Layout.{need}
 use Rattle.rules_store.specs.Running.{idle, charts, rest, awake, entered, stepped, charting}
 use Rattle.rules_store.specs.Word.{runningOf, putOwner, putChartState, birthOf}
 use Rattle.rules_store.specs.WellFormed.{stepOk}
-use Rattle.rules_store.specs.Part.{Part, count, chart, due, input as «inputs-part», sampled as «samples-part», computed, buffered, just, also, everything, Leaves}
+use Rattle.rules_store.specs.Part.{Part, count, chart, due, input as «inputs-part», sampled as «samples-part», computed, buffered, just, also, calm, everything, Leaves}
 use Rattle.rules_store.specs.laws.Writer.{leaves-owner, leaves-chart}
 use Rattle.rules_store.specs.laws.Own.{running-put, element-running}
 use Rattle.rules_moves.specs.Partner.{inputOwner, partnerVariable}
@@ -214,7 +214,7 @@ module _ (T : List ℕ) (S : Shape) (time : ℕ) (r : Running) (n : Next) (s : L
   unfolding stepMove
   step-runs j e =
       let y = oneStep T S (stepFrame S j) (time - runningOf s .birth) s in
-      let a = one-step-leaves T S lawful everything refl j (time - runningOf s .birth) s (ready-step S n (is-ready T S time r n s w) j e) .long in
+      let a = one-step-leaves T S lawful everything refl refl j (time - runningOf s .birth) s (ready-step S n (is-ready T S time r n s w) j e) .long in
       running-put S y (omega arith) (stepped (runningOf s))
 
   end-runs : (j : ℕ) → runningOf (endMove T S time (stateOf s) (runningOf s) j s) ≡ entered (actionNumber T S (stateOf s) (runningOf s .action + 1)) (runningOf s)
@@ -238,7 +238,7 @@ module _ (T : List ℕ) (S : Shape) (time : ℕ) (r : Running) (n : Next) (s : L
   step-keeps j e =
       let y = oneStep T S (stepFrame S j) (time - runningOf s .birth) s in
       ap (λ (x : ℕ). x - 1) (element-running S y (stepped (runningOf s))
-      ∙ one-step-leaves T S lawful (just computed) refl j (time - runningOf s .birth) s (ready-step S n (is-ready T S time r n s w) j e) .running refl .element)
+      ∙ one-step-leaves T S lawful calm refl refl j (time - runningOf s .birth) s (ready-step S n (is-ready T S time r n s w) j e) .running refl .element)
 
   end-keeps : (j : ℕ) → elementOf (endMove T S time (stateOf s) (runningOf s) j s) ≡ elementOf s
   unfolding endMove

@@ -9,7 +9,7 @@ use Rattle.rules_tables.specs.Judge.{judged}
 use Rattle.rules_tables.specs.View.{kindSpan, stepSpan, IsPart}
 use Rattle.rules_tables.specs.laws.View.{one-part}
 use Rattle.rules_calls.specs.declared.Answer.{Answer}
-use Rattle.rules_calls.specs.Answer.{movesOf, bytesOf, stopOf}
+use Rattle.rules_calls.specs.Answer.{movesOf, bytesOf, stopOf, untrueOf}
 use Rattle.rules_calls.specs.Public.{LoadCall, AdvanceCall, ArrivalCall, RunCall}
 use Rattle.rules_calls.specs.laws.Public.{run-store, run-output}
 use Rattle.rules_calls.specs.Exports.{packed, LoadTold, AdvanceTold, ArrivalTold, RunTold, Lies}
@@ -61,15 +61,16 @@ module _ {T s : List ℕ} {r q : ℕ} {s′ s″ : List ℕ} where
       let w = one-arrival (x .call) (y .call) in
       (x .number ∙ ap packed (w .0) ∙ sym (y .number), w .1)
 
-  pub one-run-told : {budget m m′ n n′ k k′ : ℕ} {out out′ out″ : List ℕ}
-      → RunTold T s budget out r m n k s′ out′ → RunTold T s budget out q m′ n′ k′ s″ out″
-      → (r ≡ q) × (m ≡ m′) × (n ≡ n′) × (k ≡ k′) × (s′ ≡ s″) × (out′ ≡ out″)
+  pub one-run-told : {budget m m′ n n′ k k′ u u′ : ℕ} {out out′ out″ : List ℕ}
+      → RunTold T s budget out r m n k u s′ out′ → RunTold T s budget out q m′ n′ k′ u′ s″ out″
+      → (r ≡ q) × (m ≡ m′) × (n ≡ n′) × (k ≡ k′) × (u ≡ u′) × (s′ ≡ s″) × (out′ ≡ out″)
   one-run-told x y =
       let w = one-run (x .call) (y .call) in (
         x .number ∙ ap packed (w .0) ∙ sym (y .number),
         x .moves-made ∙ ap movesOf (w .0) ∙ sym (y .moves-made),
         x .stopped ∙ ap stopOf (w .0) ∙ sym (y .stopped),
         x .bytes-written ∙ ap bytesOf (w .0) ∙ sym (y .bytes-written),
+        x .untrue-made ∙ ap untrueOf (w .0) ∙ sym (y .untrue-made),
         w .1,
         w .2,
       )

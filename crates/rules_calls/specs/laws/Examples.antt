@@ -12,7 +12,7 @@ use Rattle.rules_walks.specs.Walk.{upTo}
 use Rattle.rules_tables.specs.declared.Shape.{Shape}
 use Rattle.rules_tables.specs.Ids.{inputs, outputs, variables, transitions}
 use Rattle.rules_store.specs.Layout.{need, elementAt}
-use Rattle.rules_store.specs.Word.{nowOf, putNow, runningElement, currentEvent, runningOf, spareWord, dueFlag, dueTime, putDue}
+use Rattle.rules_store.specs.Word.{nowOf, putNow, runningElement, currentEvent, runningOf, spareAt, spareWord, dueFlag, dueTime, putDue}
 use Rattle.rules_store.specs.WellFormed.{spareOk, restOk, runningOk, partsOk, wellFormed}
 use Rattle.rules_moves.specs.Next.{move}
 use Rattle.rules_moves.specs.Take.{fireFound}
@@ -41,7 +41,7 @@ elementsOnly n =
 
 -- ---- the refusals of a store: 5 "store shorter than its need", 6 "store not well formed"
 pub store-refused : map (storeRefusal [] (elementsOnly 0)) (replicate 15 0 ∷ set (replicate 16 0) 9 1 ∷ replicate 16 0 ∷ []) ≡ 5 ∷ 6 ∷ 0 ∷ []
-unfolding storeRefusal wellFormed spareOk runningOk restOk partsOk allTo nowOf runningElement currentEvent runningOf spareWord need inputs variables
+unfolding storeRefusal wellFormed spareOk runningOk restOk partsOk allTo nowOf runningElement currentEvent runningOf spareWord spareAt need inputs variables
 store-refused = refl
 
 -- a load is not refused for what the store has
@@ -104,5 +104,5 @@ module _ (T : List ℕ) (S : Shape) (time room : ℕ) (s : List ℕ) (n : ℕ) w
   no-budget e f = rw (e, f) refl
 
 -- ---- an answer as one number: refusal 4 at frame 19; a run is not refused
-pub packed-answers : map packed (Refused 4 19 ∷ Ran 7 20 3 ∷ []) ≡ 262163 ∷ 0 ∷ []
+pub packed-answers : map packed (Refused 4 19 ∷ Ran 7 20 3 5 ∷ []) ≡ 262163 ∷ 0 ∷ []
 packed-answers = refl

@@ -13,38 +13,38 @@ use Rattle.rules_walks.specs.Choose.{choose}
 use Rattle.rules_tables.specs.declared.Shape.{Shape}
 use Rattle.rules_tables.specs.Judge.{Verdict, accepted, refused, frame, judge, shapeOf}
 use Rattle.rules_store.specs.Word.{nowOf}
-use Rattle.rules_calls.specs.Run.{after, bytes, stopAfter}
+use Rattle.rules_calls.specs.Run.{after, bytes, untrueIn, stopAfter}
 use Rattle.rules_calls.specs.declared.Answer.{Answer}
 use Rattle.rules_calls.specs.declared.Answer.the-variants.{Refused, Done}
-use Rattle.rules_calls.specs.Answer.{numberOf, frameOf, movesOf, bytesOf, stopOf, answerBy, keptBy}
+use Rattle.rules_calls.specs.Answer.{numberOf, frameOf, movesOf, bytesOf, stopOf, untrueOf, answerBy, keptBy}
 use Rattle.rules_calls.specs.Refusals.{loadRefusal, storeRefusal, advanceRefusal, arrivalRefusal}
 use Rattle.rules_calls.specs.Public.{runMoves, runAnswer, loadAnswer, loadStore, advanceAnswer, advanceStore, arrivalAnswer, arrivalStore, runAnswered, runStore, runOutput, numberBy, countBy, Tells, LoadCall, AdvanceCall, ArrivalCall, RunCall}
 
 -- what is answered for a verdict v and a refusal q of the call, where a call that is done tells no number and no frame
 module _ (v : Verdict) (q : ℕ) where
   answer-tells : (d : Answer) → numberOf d ≡ 0 → frameOf d ≡ 0
-      → Tells (answerBy v q d) (numberBy v q) (frame v) (countBy v q (movesOf d)) (countBy v q (bytesOf d)) (countBy v q (stopOf d))
+      → Tells (answerBy v q d) (numberBy v q) (frame v) (countBy v q (movesOf d)) (countBy v q (bytesOf d)) (countBy v q (stopOf d)) (countBy v q (untrueOf d))
   answer-tells d n f = by v
     where
-      by : (w : Verdict) → Tells (answerBy w q d) (numberBy w q) (frame w) (countBy w q (movesOf d)) (countBy w q (bytesOf d)) (countBy w q (stopOf d))
-      by (refused p g) = record { number-is = refl; frame-is = refl; moves-are = refl; bytes-are = refl; stop-is = refl }
+      by : (w : Verdict) → Tells (answerBy w q d) (numberBy w q) (frame w) (countBy w q (movesOf d)) (countBy w q (bytesOf d)) (countBy w q (stopOf d)) (countBy w q (untrueOf d))
+      by (refused p g) = record { number-is = refl; frame-is = refl; moves-are = refl; bytes-are = refl; stop-is = refl; untrue-are = refl }
       by accepted = at (eqb q 0) refl
         where
-          at : (b : Bool) → eqb q 0 ≡ b → Tells (pick b d (Refused q 0)) q 0 (pick b (movesOf d) 0) (pick b (bytesOf d) 0) (pick b (stopOf d) 0)
-          at true e = record { number-is = n ∙ sym (eqb-true q 0 e); frame-is = f; moves-are = refl; bytes-are = refl; stop-is = refl }
-          at false e = record { number-is = refl; frame-is = refl; moves-are = refl; bytes-are = refl; stop-is = refl }
+          at : (b : Bool) → eqb q 0 ≡ b → Tells (pick b d (Refused q 0)) q 0 (pick b (movesOf d) 0) (pick b (bytesOf d) 0) (pick b (stopOf d) 0) (pick b (untrueOf d) 0)
+          at true e = record { number-is = n ∙ sym (eqb-true q 0 e); frame-is = f; moves-are = refl; bytes-are = refl; stop-is = refl; untrue-are = refl }
+          at false e = record { number-is = refl; frame-is = refl; moves-are = refl; bytes-are = refl; stop-is = refl; untrue-are = refl }
 
   -- a call without counts
-  pub done-tells : (r : Answer) → r ≡ answerBy v q Done → Tells r (numberBy v q) (frame v) 0 0 0
+  pub done-tells : (r : Answer) → r ≡ answerBy v q Done → Tells r (numberBy v q) (frame v) 0 0 0 0
   done-tells r e = rw e (by v)
     where
-      by : (w : Verdict) → Tells (answerBy w q Done) (numberBy w q) (frame w) 0 0 0
-      by (refused p g) = record { number-is = refl; frame-is = refl; moves-are = refl; bytes-are = refl; stop-is = refl }
+      by : (w : Verdict) → Tells (answerBy w q Done) (numberBy w q) (frame w) 0 0 0 0
+      by (refused p g) = record { number-is = refl; frame-is = refl; moves-are = refl; bytes-are = refl; stop-is = refl; untrue-are = refl }
       by accepted = at (eqb q 0) refl
         where
-          at : (b : Bool) → eqb q 0 ≡ b → Tells (pick b Done (Refused q 0)) q 0 0 0 0
-          at true e = record { number-is = sym (eqb-true q 0 e); frame-is = refl; moves-are = refl; bytes-are = refl; stop-is = refl }
-          at false e = record { number-is = refl; frame-is = refl; moves-are = refl; bytes-are = refl; stop-is = refl }
+          at : (b : Bool) → eqb q 0 ≡ b → Tells (pick b Done (Refused q 0)) q 0 0 0 0 0
+          at true e = record { number-is = sym (eqb-true q 0 e); frame-is = refl; moves-are = refl; bytes-are = refl; stop-is = refl; untrue-are = refl }
+          at false e = record { number-is = refl; frame-is = refl; moves-are = refl; bytes-are = refl; stop-is = refl; untrue-are = refl }
 
   -- no moves leave the store, and write nothing
   module _ (T : List ℕ) (S : Shape) (t m : ℕ) (s : List ℕ) where
@@ -84,6 +84,18 @@ module _ (v : Verdict) (q : ℕ) where
             at true = refl
             at false = refl
 
+    count-untrue : countBy v q (untrueIn T S t m s) ≡ untrueIn T S t (countBy v q m) s
+    unfolding untrueIn
+    count-untrue = by v
+      where
+        by : (w : Verdict) → countBy w q (untrueIn T S t m s) ≡ untrueIn T S t (countBy w q m) s
+        by (refused p g) = refl
+        by accepted = at (eqb q 0)
+          where
+            at : (b : Bool) → pick b (untrueIn T S t m s) 0 ≡ untrueIn T S t (pick b m 0) s
+            at true = refl
+            at false = refl
+
     count-stop : (room : ℕ) → countBy v q (stopAfter T S t room s m) ≡ countBy v q (stopAfter T S t room s (countBy v q m))
     count-stop room = by v
       where
@@ -119,7 +131,7 @@ module _ (T s : List ℕ) (budget : ℕ) (out : List ℕ) where
   module _ {r : Answer} where
     told : (r ≡ runAnswered T s budget out)
         → Tells r (numberBy v q) (frame v) (countBy v q m) (countBy v q (length (bytes T (shapeOf T) (nowOf s) m s)))
-        (countBy v q (stopAfter T (shapeOf T) (nowOf s) (length out) s m))
+        (countBy v q (stopAfter T (shapeOf T) (nowOf s) (length out) s m)) (countBy v q (untrueIn T (shapeOf T) (nowOf s) m s))
     told a = rw a (answer-tells v q (runAnswer T s budget (length out) m) refl refl)
 
     pub run-call : {s′ out′ : List ℕ} → r ≡ runAnswered T s budget out → s′ ≡ runStore T s budget out → out′ ≡ runOutput T s budget out → RunCall T s budget out r s′ out′
@@ -135,6 +147,7 @@ module _ (T s : List ℕ) (budget : ℕ) (out : List ℕ) where
                 moves-are = w .moves-are;
                 bytes-are = w .bytes-are ∙ count-bytes v q T (shapeOf T) (nowOf s) m s ∙ ap (λ (k : ℕ). length (bytes T (shapeOf T) (nowOf s) k s)) n;
                 stop-is = w .stop-is ∙ count-stop v q T (shapeOf T) (nowOf s) m s (length out) ∙ ap (λ (k : ℕ). countBy v q (stopAfter T (shapeOf T) (nowOf s) (length out) s k)) n;
+                untrue-are = w .untrue-are ∙ count-untrue v q T (shapeOf T) (nowOf s) m s ∙ ap (λ (k : ℕ). untrueIn T (shapeOf T) (nowOf s) k s) n;
               };
           store = e ∙ kept-after v q T (shapeOf T) (nowOf s) m s ∙ ap (λ (k : ℕ). after T (shapeOf T) (nowOf s) k s) n;
           output = o ∙ kept-bytes v q T (shapeOf T) (nowOf s) m s out ∙ ap (λ (k : ℕ). sets out 0 (bytes T (shapeOf T) (nowOf s) k s)) n;

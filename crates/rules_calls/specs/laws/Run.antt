@@ -1,4 +1,4 @@
--- A run makes no more moves than its budget, and what it writes fits its output.
+-- A run makes no more moves than its budget, and no more untrue steps than moves; what it writes fits its output.
 use mathlib.Core.Path.{_≡_}
 use mathlib.Core.List.{List}
 use mathlib.Core.Bool.{true}
@@ -13,8 +13,9 @@ use Rattle.rules_walks.specs.laws.Held.{held}
 use Rattle.rules_tables.specs.declared.Shape.{Shape}
 use Rattle.rules_tables.specs.Judge.{shapeOf}
 use Rattle.rules_store.specs.Word.{nowOf}
-use Rattle.rules_moves.specs.Next.{nextOf, written, sizeBy}
-use Rattle.rules_calls.specs.Run.{after, bytes, another, roomFor, continues, made}
+use Rattle.rules_moves.specs.Next.{nextOf, untrueMove, written, sizeBy}
+use Rattle.rules_moves.specs.laws.Moving.{untrue-few}
+use Rattle.rules_calls.specs.Run.{after, bytes, untrueIn, another, roomFor, continues, made}
 use Rattle.rules_calls.specs.Public.{runMoves}
 
 -- ---- a run makes at most as many moves as its budget
@@ -45,3 +46,10 @@ module _ (T : List ℕ) (S : Shape) (time room : ℕ) (s : List ℕ) where
   pub bytes-fit : (budget : ℕ) → length (bytes T S time (made T S time budget room s) s) ≤ room
   unfolding made
   bytes-fit budget = went-fits (heldTo (continues T S time room s) budget) (held (continues T S time room s) budget .before)
+
+-- ---- no more untrue steps than moves
+module _ (T : List ℕ) (S : Shape) (time : ℕ) (s : List ℕ) where
+  pub untrue-fit : (n : ℕ) → untrueIn T S time n s ≤ n
+  unfolding untrueIn untrueMove
+  untrue-fit zero = omega arith
+  untrue-fit (suc n) = let x = after T S time n s in omega (arith, untrue-fit n, untrue-few T S time (nextOf T S x) x)

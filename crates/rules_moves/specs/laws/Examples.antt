@@ -10,8 +10,9 @@ use Rattle.rules_walks.specs.Count.{countIf}
 use Rattle.rules_walks.specs.First.{firstFrom}
 use Rattle.rules_walks.specs.Walk.{upTo}
 use Rattle.rules_numbers.specs.Bytes.{halfAt, halfBytes, wordBytes}
-use Rattle.rules_numbers.specs.Clip.{clip}
+use Rattle.rules_numbers.specs.Clip.{clip, quotient}
 use Rattle.rules_numbers.specs.Operation.{operation}
+use Rattle.rules_numbers.specs.Truth.{trueValue, outcome}
 use Rattle.rules_tables.specs.declared.Shape.{Shape}
 use Rattle.rules_tables.specs.Kind.{ofOutput}
 use Rattle.rules_tables.specs.Frame.{flagAt, fieldAt}
@@ -19,13 +20,13 @@ use Rattle.rules_tables.specs.Ids.{inputs, variables, associations, actions, co
 use Rattle.rules_tables.specs.Owned.{belongs, isNth}
 use Rattle.rules_tables.specs.Actions.{actionOf, actionNumber}
 use Rattle.rules_store.specs.Layout.{elementAt, inputAt, variableAt}
-use Rattle.rules_store.specs.Word.{putOwner, runningOf, putRunning, overwritten, putOverwritten, putDue, waiting, lastUpdate, putInput, value, putValue, buffer}
+use Rattle.rules_store.specs.Word.{counted, putOwner, runningOf, putRunning, overwritten, putOverwritten, untrue, putUntrue, putDue, waiting, lastUpdate, putInput, value, putValue, buffer}
 use Rattle.rules_moves.specs.declared.Key.{Key}
 use Rattle.rules_moves.specs.declared.Next.the-variants.{Idle, Back}
-use Rattle.rules_moves.specs.Act.{oneStep, eventOf, endMove}
+use Rattle.rules_moves.specs.Act.{stepOutcome, resultPut, untrueStep, countUntrue, oneStep, eventOf, endMove}
 use Rattle.rules_moves.specs.Carry.{voice, speaks, carriedBy, carries}
 use Rattle.rules_moves.specs.Chart.{heard, guardHolds, goIdle}
-use Rattle.rules_moves.specs.Fire.{counted, mark, connect, fire}
+use Rattle.rules_moves.specs.Fire.{mark, connect, fire}
 use Rattle.rules_moves.specs.Guard.{guardOf, guardAt, holds}
 use Rattle.rules_moves.specs.Least.{beats}
 use Rattle.rules_moves.specs.Next.{moveBy}
@@ -51,23 +52,6 @@ then-local-priority = refl
 pub not-the-greater : beats (key 5 1 4) (key 5 1 3) ≡ false
 unfolding beats
 not-the-greater = refl
-
--- ---- "if it waited already, the overwritten count rises"; it "stops at 4,294,967,295"
-pub count-rises : counted 1 7 ≡ 8
-unfolding counted
-count-rises = refl
-
-pub count-rests : counted 0 7 ≡ 7
-unfolding counted
-count-rests = refl
-
-pub count-reaches-its-end : counted 1 4294967294 ≡ 4294967295
-unfolding counted
-count-reaches-its-end = refl
-
-pub count-stops : counted 1 4294967295 ≡ 4294967295
-unfolding counted
-count-stops = refl
 
 -- ---- "A record: element, event input (2 bytes each), birth, last update, now": of element 258, event input 3, born 7, updated 8, now 9
 pub record-head : head 258 3 7 8 9 ≡ 1 ∷ 2 ∷ 0 ∷ 3 ∷ 0 ∷ 0 ∷ 0 ∷ 7 ∷ 0 ∷ 0 ∷ 0 ∷ 8 ∷ 0 ∷ 0 ∷ 0 ∷ 9 ∷ []
@@ -158,9 +142,24 @@ unfolding guardHolds guardAt guardOf holds value variableAt inputs variables fla
 guards-hold = refl
 
 -- ---- "2 subtract c from b": the result is variable 0, b is variable 1 of value 9, c variable 2 of value 4
-pub step-order : at (16 ∷ []) (oneStep (frame 9 2 0 1 2 0) (frames 0 0 0 3 0 0 0) 0 0 (replicate 18 0 ++ (9 ∷ 0 ∷ 4 ∷ 0 ∷ []))) ≡ 5 ∷ []
-unfolding oneStep operation clip choose putValue value variableAt inputs variables flagAt fieldAt halfAt
+pub step-order : at (11 ∷ 16 ∷ []) (oneStep (frame 9 2 0 1 2 0) (frames 0 0 0 3 0 0 0) 0 0 (replicate 18 0 ++ (9 ∷ 0 ∷ 4 ∷ 0 ∷ []))) ≡ 0 ∷ 5 ∷ []
+unfolding oneStep stepOutcome resultPut untrueStep countUntrue counted outcome trueValue operation clip choose putValue value untrue putUntrue variableAt inputs variables flagAt fieldAt halfAt
 step-order = refl
+
+-- ---- "Word 11 counts untrue steps since load and stops at 4,294,967,295.": 9 divided by 0, where so many were counted before
+abbrev dividing : ℕ → List ℕ
+dividing n = replicate 11 0 ++ (n ∷ 0 ∷ 0 ∷ 0 ∷ 0 ∷ 3 ∷ 0 ∷ 9 ∷ 0 ∷ 0 ∷ 0 ∷ [])
+
+pub step-counts :
+    map (λ (n : ℕ). at (11 ∷ 16 ∷ []) (oneStep (frame 9 5 0 1 2 0) (frames 0 0 0 3 0 0 0) 0 0 (dividing n))) (0 ∷ 7 ∷ 4294967295 ∷ [])
+    ≡ (1 ∷ 0 ∷ []) ∷ (8 ∷ 0 ∷ []) ∷ (4294967295 ∷ 0 ∷ []) ∷ []
+unfolding oneStep stepOutcome resultPut untrueStep countUntrue counted outcome trueValue operation clip quotient choose putValue value untrue putUntrue variableAt inputs variables flagAt fieldAt halfAt
+step-counts = refl
+
+-- it is one untrue step, and a true one is none
+pub step-untrue : map (λ (op : ℕ). untrueStep (frame 9 op 0 1 2 0) (frames 0 0 0 3 0 0 0) 0 0 (dividing 7)) (0 ∷ 1 ∷ 5 ∷ []) ≡ 0 ∷ 0 ∷ 1 ∷ []
+unfolding stepOutcome untrueStep outcome trueValue operation clip quotient choose value variableAt inputs variables flagAt fieldAt halfAt
+step-untrue = refl
 
 -- ---- "Delay: START sets due to now + DT (a negative DT counts as 0), STOP clears it.": DT is 50, at 9
 abbrev delaying : List ℕ

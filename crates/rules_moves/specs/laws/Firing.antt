@@ -6,11 +6,11 @@ use mathlib.Core.Logic.{⊎-elim}
 use Prim.Native.Nat.{ℕ, suc, _+_, _≤_, _<_}
 use native.Mathlib.Nat.{eq-or-lt-of-le, le-of-suc-le-suc, not-suc-le-zero}
 use native.Mathlib.Omega.{arith}
-use lib.Dec.{eqb, ltb}
+use lib.Dec.{eqb}
 use lib.ListN.{length}
 use borrow.Author.Tests.{eqb-true, eqb-false}
-use Rattle.rules_walks.specs.Pick.{pick, both, either}
-use Rattle.rules_walks.specs.laws.Pick.{by-test, either-false, either-true, clash}
+use Rattle.rules_walks.specs.Pick.{both, either}
+use Rattle.rules_walks.specs.laws.Pick.{either-false, either-true, clash}
 use Rattle.rules_walks.specs.Choose.{choose}
 use Rattle.rules_walks.specs.laws.Choose.{by-choose}
 use Rattle.rules_walks.specs.All.{anyTo}
@@ -20,8 +20,8 @@ use Rattle.rules_tables.specs.Frame.{fieldAt}
 use Rattle.rules_tables.specs.declared.Shape.{Shape}
 use Rattle.rules_store.specs.Layout.{need}
 use Rattle.rules_tables.specs.Ids.{inputs, connections, links, connectionFrame}
-use Rattle.rules_store.specs.Word.{countEnd, overwritten, putOverwritten, waiting, putInput, value, buffer, putBuffer}
-use Rattle.rules_store.specs.laws.Word.{buffer-putBuffer, value-putBuffer}
+use Rattle.rules_store.specs.Word.{counted, overwritten, putOverwritten, waiting, putInput, value, buffer, putBuffer}
+use Rattle.rules_store.specs.laws.Word.{counted-grows, buffer-putBuffer, value-putBuffer}
 use Rattle.rules_store.specs.Part.{Part, count, input, buffered, just, also, everything, Leaves}
 use Rattle.rules_store.specs.laws.Part.{leaves-all, leaves-then}
 use Rattle.rules_tables.specs.Lawful.{Lawful, source, destination}
@@ -30,7 +30,7 @@ use Rattle.rules_store.specs.Own.{Input}
 use Rattle.rules_store.specs.laws.Own.{input-put, input-other, overwritten-put, buffer-put}
 use Rattle.rules_moves.specs.Carry.{voiceOf, carries}
 use Rattle.rules_moves.specs.Reached.{Reached}
-use Rattle.rules_moves.specs.Fire.{counted, mark, connect, connects, copyIf, copies, fire}
+use Rattle.rules_moves.specs.Fire.{mark, connect, connects, copyIf, copies, fire}
 use Rattle.rules_moves.specs.laws.Untouched.{copies-value, fire-value}
 use Rattle.rules_moves.specs.Connected.{runs, connected}
 
@@ -74,12 +74,6 @@ module _ (T : List ℕ) (S : Shape) (k : Lawful T S) where
       leaves-then T S f s x (copies T S (voiceOf T S o) x) (copies-leaves f bf (carries T S (voiceOf T S o)) x) (connects-leaves f wr ct o birth t s)
 
   -- ---- the overwritten count never falls
-  counted-grows : (w n : ℕ) → n ≤ counted w n
-  unfolding counted
-  counted-grows w n =
-      by-test (λ (m : ℕ). n ≤ m) (eqb w 0) n (pick (ltb n countEnd) (n + 1) n) (λ _. omega arith)
-      (λ _. by-test (λ (m : ℕ). n ≤ m) (ltb n countEnd) (n + 1) n (λ _. omega arith) (λ _. omega arith))
-
   mark-count : (birth t i : ℕ) (s : List ℕ) → need S ≤ length s → i < inputs S → overwritten s ≤ overwritten (mark S birth t i s)
   unfolding mark
   mark-count birth t i s long l =

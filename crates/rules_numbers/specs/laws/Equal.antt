@@ -12,7 +12,7 @@ equal-same (pos a) (negsuc b) e = clash e
 equal-same (negsuc a) (pos b) e = clash e
 equal-same (negsuc a) (negsuc b) e = ap negsuc (eqb-true a b e)
 
-equal-self : (a : ℤ) → eqZ a a ≡ true
+pub equal-self : (a : ℤ) → eqZ a a ≡ true
 equal-self (pos a) = eq-eqb a a refl
 equal-self (negsuc a) = eq-eqb a a refl
 

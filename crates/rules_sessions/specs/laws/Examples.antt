@@ -38,7 +38,7 @@ pub answer-frame : answerFrame 4 19 8 1 20 ≡ 192 ∷ 4 ∷ 0 ∷ 19 ∷ 0 ∷ 
 unfolding answerFrame halfBytes wordBytes
 answer-frame = refl
 
-pub answer-of-run : answerLine (Ran 8 20 1) ≡ lineOf (192 ∷ 0 ∷ 0 ∷ 0 ∷ 0 ∷ 0 ∷ 0 ∷ 8 ∷ 0 ∷ 1 ∷ 0 ∷ 20 ∷ [])
+pub answer-of-run : answerLine (Ran 8 20 1 3) ≡ lineOf (192 ∷ 0 ∷ 0 ∷ 0 ∷ 0 ∷ 0 ∷ 0 ∷ 8 ∷ 0 ∷ 1 ∷ 0 ∷ 20 ∷ [])
 unfolding answerFrame halfBytes wordBytes
 answer-of-run = refl
 

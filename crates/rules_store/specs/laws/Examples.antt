@@ -18,7 +18,7 @@ use Rattle.rules_store.specs.Layout.{need, elementAt, inputAt, variableA
 use Rattle.rules_store.specs.Load.{initial, startValue, start, loaded}
 use Rattle.rules_store.specs.Running.{entered}
 use Rattle.rules_store.specs.WellFormed.{spareOk, restOk, runningOk, dueOk, partsOk, wellFormed, stepOk}
-use Rattle.rules_store.specs.Word.{nowOf, putNow, runningElement, currentEvent, putOwner, runningOf, putRunning, putOverwritten, spareWord, putChartState, dueFlag, dueTime, putDue, putInput, putValue, putBuffer}
+use Rattle.rules_store.specs.Word.{nowOf, putNow, runningElement, currentEvent, putOwner, runningOf, putRunning, putOverwritten, counted, putUntrue, spareAt, spareWord, putChartState, dueFlag, dueTime, putDue, putInput, putValue, putBuffer}
 
 -- "A source, a block that doubles, a sink; store need 39."
 abbrev shape : Shape
@@ -54,10 +54,32 @@ pub first-words : at (0 ∷ 1 ∷ 2 ∷ 3 ∷ 4 ∷ 5 ∷ 6 ∷ 7 ∷ 8 ∷ []) 
 unfolding putNow putOwner putRunning putOverwritten
 first-words = refl
 
--- "Words 9 to 15 zero."
-pub spare-words : map (spareWord (0 ∷ 1 ∷ 2 ∷ 3 ∷ 4 ∷ 5 ∷ 6 ∷ 7 ∷ 8 ∷ 9 ∷ 10 ∷ 11 ∷ 12 ∷ 13 ∷ 14 ∷ 15 ∷ 16 ∷ [])) (0 ∷ 1 ∷ 2 ∷ 3 ∷ 4 ∷ 5 ∷ 6 ∷ []) ≡ 9 ∷ 10 ∷ 11 ∷ 12 ∷ 13 ∷ 14 ∷ 15 ∷ []
-unfolding spareWord
+-- "Word 11 counts untrue steps since load"
+pub untrue-word : at (10 ∷ 11 ∷ 12 ∷ []) (putUntrue 5 (replicate 39 0)) ≡ 0 ∷ 5 ∷ 0 ∷ []
+unfolding putUntrue
+untrue-word = refl
+
+-- "Words 9 to 15 zero.", but for word 11
+pub spare-words : map (spareWord (0 ∷ 1 ∷ 2 ∷ 3 ∷ 4 ∷ 5 ∷ 6 ∷ 7 ∷ 8 ∷ 9 ∷ 10 ∷ 11 ∷ 12 ∷ 13 ∷ 14 ∷ 15 ∷ 16 ∷ [])) (0 ∷ 1 ∷ 2 ∷ 3 ∷ 4 ∷ 5 ∷ []) ≡ 9 ∷ 10 ∷ 12 ∷ 13 ∷ 14 ∷ 15 ∷ []
+unfolding spareWord spareAt
 spare-words = refl
+
+-- ---- the counts: they "stop at 4,294,967,295"
+pub count-rises : counted 1 7 ≡ 8
+unfolding counted
+count-rises = refl
+
+pub count-rests : counted 0 7 ≡ 7
+unfolding counted
+count-rests = refl
+
+pub count-reaches-its-end : counted 1 4294967294 ≡ 4294967295
+unfolding counted
+count-reaches-its-end = refl
+
+pub count-stops : counted 1 4294967295 ≡ 4294967295
+unfolding counted
+count-stops = refl
 
 -- "Then per element: chart state (basic, else 0), due flag, due time."
 pub element-words : at (19 ∷ 20 ∷ 21 ∷ []) (putChartState 1 5 (putDue 1 6 7 (replicate 39 0))) ≡ 5 ∷ 6 ∷ 7 ∷ []
@@ -97,13 +119,13 @@ but p x = set (replicate 16 0) p x
 
 -- "Times are whole ticks, read unsigned, 0 to 2,147,483,647."
 pub now-ends : map (wellFormed [] none) (but 0 2147483647 ∷ but 0 2147483648 ∷ []) ≡ true ∷ false ∷ []
-unfolding wellFormed spareOk runningOk restOk partsOk allTo nowOf runningElement currentEvent runningOf spareWord inputs variables
+unfolding wellFormed spareOk runningOk restOk partsOk allTo nowOf runningElement currentEvent runningOf spareWord spareAt inputs variables
 now-ends = refl
 
--- "idle means words 1 to 7 zero" (word 4 is the mode); "overwritten count"; "Words 9 to 15 zero."
-pub zero-words : map (λ (p : ℕ). wellFormed [] none (but p 1)) (1 ∷ 2 ∷ 3 ∷ 5 ∷ 6 ∷ 7 ∷ 8 ∷ 9 ∷ 15 ∷ [])
-    ≡ false ∷ false ∷ false ∷ false ∷ false ∷ false ∷ true ∷ false ∷ false ∷ []
-unfolding wellFormed spareOk runningOk restOk partsOk allTo nowOf runningElement currentEvent runningOf spareWord inputs variables
+-- "idle means words 1 to 7 zero" (word 4 is the mode); "overwritten count"; "Words 9 to 15 zero.", but for word 11
+pub zero-words : map (λ (p : ℕ). wellFormed [] none (but p 1)) (1 ∷ 2 ∷ 3 ∷ 5 ∷ 6 ∷ 7 ∷ 8 ∷ 9 ∷ 10 ∷ 11 ∷ 12 ∷ 15 ∷ [])
+    ≡ false ∷ false ∷ false ∷ false ∷ false ∷ false ∷ true ∷ false ∷ false ∷ true ∷ false ∷ false ∷ []
+unfolding wellFormed spareOk runningOk restOk partsOk allTo nowOf runningElement currentEvent runningOf spareWord spareAt inputs variables
 zero-words = refl
 
 -- "A due flag is only on a delay, due from now to 4,294,967,294": a delay, where now is 5

@@ -9,7 +9,7 @@ use Rattle.rules_tables.specs.declared.Shape.{Shape}
 use Rattle.rules_store.specs.declared.Running.{Running}
 use Rattle.rules_tables.specs.Ids.{elements, inputs, variables}
 use Rattle.rules_store.specs.Layout.{need, elementAt, inputAt, variableAt}
-use Rattle.rules_store.specs.Word.{nowOf, putNow, runningElement, currentEvent, putOwner, runningOf, putRunning, overwritten, putOverwritten, chartState, putChartState, dueFlag, dueTime, putDue, waiting, birthOf, lastUpdate, putInput, value, putValue, buffer, putBuffer}
+use Rattle.rules_store.specs.Word.{nowOf, putNow, runningElement, currentEvent, putOwner, runningOf, putRunning, overwritten, putOverwritten, untrue, putUntrue, chartState, putChartState, dueFlag, dueTime, putDue, waiting, birthOf, lastUpdate, putInput, value, putValue, buffer, putBuffer}
 use Rattle.rules_store.specs.Part.{SameDue, SameInput, Outside}
 use Rattle.rules_store.specs.laws.Part.{same-due, same-input, outside-none, outside-set}
 use Rattle.rules_store.specs.Own.{Input, Due}
@@ -30,6 +30,10 @@ module _ (S : Shape) (s : List ℕ) (long : need S ≤ length s) where
   pub overwritten-put : (n : ℕ) → overwritten (putOverwritten n s) ≡ n
   unfolding overwritten putOverwritten need
   overwritten-put n = getD-set-same s 8 n 0 (omega arith)
+
+  pub untrue-put : (n : ℕ) → untrue (putUntrue n s) ≡ n
+  unfolding untrue putUntrue need
+  untrue-put n = getD-set-same s 11 n 0 (omega arith)
 
   pub running-put : (r : Running) → runningOf (putRunning r s) ≡ r
   unfolding runningOf putRunning need

@@ -9,7 +9,7 @@ use lib.Seq.{getD-set-other}
 use Rattle.rules_tables.specs.declared.Shape.{Shape}
 use Rattle.rules_store.specs.Layout.{elementAt, inputAt}
 use Rattle.rules_store.specs.Word.{runningElement, currentEvent, runningOf, dueFlag, dueTime, waiting, birthOf, lastUpdate}
-use Rattle.rules_store.specs.Part.{Part, time, block, count, chart, due, input, sampled, computed, buffered, SameBlock, SameDue, SameInput, Leaves, Outside}
+use Rattle.rules_store.specs.Part.{Part, time, block, count, untrues, chart, due, input, sampled, computed, buffered, SameBlock, SameDue, SameInput, Leaves, Outside}
 
 module _ (T : List ℕ) (S : Shape) (touched : Part → Bool) where
   pub leaves-all : (s : List ℕ) → Leaves T S touched s s
@@ -21,6 +21,7 @@ module _ (T : List ℕ) (S : Shape) (touched : Part → Bool) where
         now = λ h. refl;
         running = λ h. record { element = refl; event = refl; running = refl };
         counted = λ h. refl;
+        untrue-same = λ h. refl;
         charts = λ h el l. refl;
         dues = λ h el l. record { flag = refl; at = refl };
         waits = λ h i l. record { waits = refl; born = refl; last = refl };
@@ -43,6 +44,7 @@ module _ (T : List ℕ) (S : Shape) (touched : Part → Bool) where
             let w = a .running h in
             record { element = u .element ∙ w .element; event = u .event ∙ w .event; running = u .running ∙ w .running };
         counted = λ h. b .counted h ∙ a .counted h;
+        untrue-same = λ h. b .untrue-same h ∙ a .untrue-same h;
         charts = λ h el l. b .charts h el l ∙ a .charts h el l;
         dues = λ h el l. let u = b .dues h el l in let w = a .dues h el l in record { flag = u .flag ∙ w .flag; at = u .at ∙ w .at };
         waits =
@@ -65,6 +67,7 @@ leaves-less T S f g s s′ h w =
       now = λ e. w .now (h time e);
       running = λ e. w .running (h block e);
       counted = λ e. w .counted (h count e);
+      untrue-same = λ e. w .untrue-same (h untrues e);
       charts = λ e. w .charts (h chart e);
       dues = λ e. w .dues (h due e);
       waits = λ e. w .waits (h input e);

@@ -1,16 +1,36 @@
 -- Laws of the words: what a writer leaves to the readers of other words. A change of the layout is felt here and nowhere above.
 use mathlib.Core.Path.{_≡_, sym, _∙_}
 use mathlib.Core.List.{List}
-use Prim.Native.Nat.{ℕ, _+_, _≤_, _<_}
+use Prim.Native.Nat.{ℕ, _+_, _≤_, _<_, min}
 use native.Mathlib.Omega.{arith}
 use mathlib.Core.Logic.{⊎-elim}
+use lib.Dec.{eqb, ltb}
 use lib.ListN.{length, getD, set, List·getD-eq-default}
 use lib.Seq.{set-comm, set-out, getD-set-same, getD-set-other}
-use Rattle.rules_walks.specs.laws.Pick.{tri}
+use borrow.Author.Tests.{eqb-true, eqb-false, ltb-true, ltb-false}
+use Rattle.rules_walks.specs.Pick.{pick}
+use Rattle.rules_walks.specs.laws.Pick.{tri, by-test}
 use Rattle.rules_tables.specs.declared.Shape.{Shape}
 use Rattle.rules_tables.specs.Ids.{inputs}
 use Rattle.rules_store.specs.Layout.{inputAt, variableAt}
-use Rattle.rules_store.specs.Word.{putOverwritten, putInput, value, putValue, buffer, putBuffer}
+use Rattle.rules_store.specs.Word.{countEnd, counted, putOverwritten, putInput, value, putValue, buffer, putBuffer}
+
+-- ---- a count never falls; it is the sum, up to its end
+pub counted-grows : (w n : ℕ) → n ≤ counted w n
+unfolding counted
+counted-grows w n =
+    by-test (λ (m : ℕ). n ≤ m) (eqb w 0) n (pick (ltb n countEnd) (n + 1) n) (λ _. omega arith)
+    (λ _. by-test (λ (m : ℕ). n ≤ m) (ltb n countEnd) (n + 1) n (λ _. omega arith) (λ _. omega arith))
+
+pub counted-adds : (w n : ℕ) → w ≤ 1 → n ≤ countEnd → counted w n ≡ min (n + w) countEnd
+unfolding counted
+counted-adds w n few low =
+    by-test (λ (m : ℕ). m ≡ min (n + w) countEnd) (eqb w 0) n (pick (ltb n countEnd) (n + 1) n) (λ e. let z = eqb-true w 0 e in omega arith)
+    (λ e.
+    let z = eqb-false w 0 e in
+    let one : w ≡ 1 = omega arith in
+    by-test (λ (m : ℕ). m ≡ min (n + w) countEnd) (ltb n countEnd) (n + 1) n (λ h. let l = ltb-true n countEnd h in omega arith)
+    (λ h. let l = ltb-false n countEnd h in omega arith))
 
 -- the words of the variables lie past all others
 module _ (S : Shape) (p : ℕ) (past : variableAt S 0 ≤ p) where

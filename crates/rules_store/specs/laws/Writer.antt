@@ -12,24 +12,26 @@ use Rattle.rules_tables.specs.declared.Shape.{Shape}
 use Rattle.rules_store.specs.declared.Running.{Running}
 use Rattle.rules_tables.specs.Ids.{elements, inputs, variables, variableFrame}
 use Rattle.rules_store.specs.Layout.{need, elementAt, inputAt, variableAt}
-use Rattle.rules_store.specs.Word.{firstSpare, nowOf, putNow, putOwner, putRunning, overwritten, putOverwritten, spareWord, chartState, putChartState, putDue, putInput, value, putValue, buffer, putBuffer}
-use Rattle.rules_store.specs.Part.{Part, time, block, count, chart, due, input, sampled, computed, buffered, Leaves, Outside}
+use Rattle.rules_store.specs.Word.{nowOf, putNow, putOwner, putRunning, overwritten, putOverwritten, untrue, putUntrue, spareAt, spareWord, chartState, putChartState, putDue, putInput, value, putValue, buffer, putBuffer}
+use Rattle.rules_store.specs.Part.{Part, time, block, count, untrues, chart, due, input, sampled, computed, buffered, Leaves, Outside}
+use Rattle.rules_store.specs.laws.Spare.{spare-from, spare-below, spare-not-untrue}
 use Rattle.rules_store.specs.laws.Part.{outside-none, outside-set, same-block, same-due, same-input}
 
 module _ (T : List ℕ) (S : Shape) (f : Part → Bool) (s : List ℕ) where
   -- a word of the first sixteen that is no spare one: what lies past them stays
-  low : (lo hi : ℕ) (s′ : List ℕ) → hi ≤ firstSpare → Outside lo hi s s′
+  low : (lo hi : ℕ) (s′ : List ℕ) → hi ≤ 16 → ((j : ℕ) → lo ≤ spareAt j → spareAt j < hi → ⊥) → Outside lo hi s s′
       → (f time ≡ false → 0 < lo) → (f block ≡ false → (p : ℕ) → 1 ≤ p → p < 8 → lo ≤ p → p < hi → ⊥) → (f count ≡ false → 8 < lo ⊎ hi ≤ 8)
-      → Leaves T S f s s′
-  unfolding need elementAt inputAt variableAt nowOf overwritten spareWord chartState value buffer
-  low lo hi s′ few o t b c =
+      → (f untrues ≡ false → 11 < lo ⊎ hi ≤ 11) → Leaves T S f s s′
+  unfolding need elementAt inputAt variableAt nowOf overwritten untrue spareWord chartState value buffer
+  low lo hi s′ few x o t b c d =
       record {
         long = o .long;
         past = λ p h. o .apart p (λ m n. omega arith);
-        spare = λ j l. o .apart (firstSpare + j) (λ m n. omega arith);
+        spare = λ j l. o .apart (spareAt j) (x j);
         now = λ h. let z = t h in o .apart 0 (λ m n. omega arith);
         running = λ h. same-block s s′ (λ p l u. o .apart p (b h p l u));
         counted = λ h. o .apart 8 (λ m n. ⊎-elim (λ z. omega arith) (λ z. omega arith) (c h));
+        untrue-same = λ h. o .apart 11 (λ m n. ⊎-elim (λ z. omega arith) (λ z. omega arith) (d h));
         charts = λ h el l. o .apart (elementAt el) (λ m n. omega arith);
         dues = λ h el l. same-due s s′ el (λ p a z. o .apart p (λ m n. omega arith));
         waits = λ h i l. same-input S s s′ i (λ p a z. o .apart p (λ m n. omega arith));
@@ -38,18 +40,22 @@ module _ (T : List ℕ) (S : Shape) (f : Part → Bool) (s : List ℕ) where
         buffers = λ h v l. o .apart (variableAt S v + 1) (λ m n. omega arith);
       }
 
+  -- no spare word lies below these
+  spares-past : {lo : ℕ} (hi : ℕ) → hi ≤ 9 → (j : ℕ) → lo ≤ spareAt j → spareAt j < hi → ⊥
+  spares-past hi l j m n = omega (arith, spare-from j)
+
   pub leaves-now : (t : ℕ) → f time ≡ true → Leaves T S f s (putNow t s)
   unfolding putNow
   leaves-now t e =
-      low 0 1 (set s 0 t) (omega arith) (outside-set 0 1 s s 0 t (omega arith) (omega arith) (outside-none 0 1 s))
-      (λ h. clash (sym h ∙ e)) (λ h p l u m n. omega arith) (λ h. inr (omega arith))
+      low 0 1 (set s 0 t) (omega arith) (spares-past 1 (omega arith)) (outside-set 0 1 s s 0 t (omega arith) (omega arith) (outside-none 0 1 s))
+      (λ h. clash (sym h ∙ e)) (λ h p l u m n. omega arith) (λ h. inr (omega arith)) (λ h. inr (omega arith))
 
   pub leaves-owner : (el ev : ℕ) → f block ≡ true → Leaves T S f s (putOwner el ev s)
   unfolding putOwner
   leaves-owner el ev e =
-      low 1 8 (set (set s 1 el) 2 ev) (omega arith)
+      low 1 8 (set (set s 1 el) 2 ev) (omega arith) (spares-past 8 (omega arith))
       (outside-set 1 8 s (set s 1 el) 2 ev (omega arith) (omega arith) (outside-set 1 8 s s 1 el (omega arith) (omega arith) (outside-none 1 8 s)))
-      (λ h. omega arith) (λ h. clash (sym h ∙ e)) (λ h. inr (omega arith))
+      (λ h. omega arith) (λ h. clash (sym h ∙ e)) (λ h. inr (omega arith)) (λ h. inr (omega arith))
 
   pub leaves-running : (r : Running) → f block ≡ true → Leaves T S f s (putRunning r s)
   unfolding putRunning
@@ -58,19 +64,25 @@ module _ (T : List ℕ) (S : Shape) (f : Part → Bool) (s : List ℕ) where
       let b = set a 4 (r .mode) in
       let c = set b 5 (r .live) in
       let d = set c 6 (r .action) in
-      low 1 8 (set d 7 (r .step)) (omega arith)
+      low 1 8 (set d 7 (r .step)) (omega arith) (spares-past 8 (omega arith))
       (outside-set 1 8 s d 7 (r .step) (omega arith) (omega arith)
       (outside-set 1 8 s c 6 (r .action) (omega arith) (omega arith)
       (outside-set 1 8 s b 5 (r .live) (omega arith) (omega arith)
       (outside-set 1 8 s a 4 (r .mode) (omega arith) (omega arith)
       (outside-set 1 8 s s 3 (r .birth) (omega arith) (omega arith) (outside-none 1 8 s))))))
-      (λ h. omega arith) (λ h. clash (sym h ∙ e)) (λ h. inr (omega arith))
+      (λ h. omega arith) (λ h. clash (sym h ∙ e)) (λ h. inr (omega arith)) (λ h. inr (omega arith))
 
   pub leaves-overwritten : (n : ℕ) → f count ≡ true → Leaves T S f s (putOverwritten n s)
   unfolding putOverwritten
   leaves-overwritten n e =
-      low 8 9 (set s 8 n) (omega arith) (outside-set 8 9 s s 8 n (omega arith) (omega arith) (outside-none 8 9 s))
-      (λ h. omega arith) (λ h p l u m n. omega arith) (λ h. clash (sym h ∙ e))
+      low 8 9 (set s 8 n) (omega arith) (spares-past 9 (omega arith)) (outside-set 8 9 s s 8 n (omega arith) (omega arith) (outside-none 8 9 s))
+      (λ h. omega arith) (λ h p l u m n. omega arith) (λ h. clash (sym h ∙ e)) (λ h. inr (omega arith))
+
+  pub leaves-untrue : (n : ℕ) → f untrues ≡ true → Leaves T S f s (putUntrue n s)
+  unfolding putUntrue
+  leaves-untrue n e =
+      low 11 12 (set s 11 n) (omega arith) (λ j m u. spare-not-untrue j (omega arith)) (outside-set 11 12 s s 11 n (omega arith) (omega arith) (outside-none 11 12 s))
+      (λ h. omega arith) (λ h p l u m n. omega arith) (λ h. inl (omega arith)) (λ h. clash (sym h ∙ e))
 
   -- words past the first sixteen: those stay
   high : (lo hi : ℕ) (s′ : List ℕ) → 16 ≤ lo → hi ≤ need S → Outside lo hi s s′
@@ -81,15 +93,16 @@ module _ (T : List ℕ) (S : Shape) (f : Part → Bool) (s : List ℕ) where
       → (f computed ≡ false → (v : ℕ) → v < variables S → (flagAt T (variableFrame S v) ≡ 0 → ⊥) → lo ≤ variableAt S v → variableAt S v < hi → ⊥)
       → (f buffered ≡ false → (v : ℕ) → v < variables S → lo ≤ variableAt S v + 1 → variableAt S v + 1 < hi → ⊥)
       → Leaves T S f s s′
-  unfolding need elementAt inputAt variableAt nowOf overwritten spareWord chartState value buffer
+  unfolding need elementAt inputAt variableAt nowOf overwritten untrue spareWord chartState value buffer
   high lo hi s′ from few o c d i x r y =
       record {
         long = o .long;
         past = λ p h. o .apart p (λ m n. omega arith);
-        spare = λ j l. o .apart (firstSpare + j) (λ m n. omega arith);
+        spare = λ j l. o .apart (spareAt j) (λ m n. omega (arith, spare-below j l));
         now = λ h. o .apart 0 (λ m n. omega arith);
         running = λ h. same-block s s′ (λ p l u. o .apart p (λ m n. omega arith));
         counted = λ h. o .apart 8 (λ m n. omega arith);
+        untrue-same = λ h. o .apart 11 (λ m n. omega arith);
         charts = λ h el l. o .apart (elementAt el) (c h el l);
         dues = λ h el l. same-due s s′ el (λ p a z. o .apart p (d h el p l a z));
         waits = λ h k l. same-input S s s′ k (λ p a z. o .apart p (λ m n. ⊎-elim (λ q. omega arith) (λ q. omega arith) (i h)));

@@ -25,7 +25,7 @@ use Rattle.rules_store.specs.Running.{entered}
 use Rattle.rules_store.specs.Word.{chartState, putChartState, value, putValue, buffer, birthOf, putRunning}
 use Rattle.rules_store.specs.laws.Own.{chart-put, chart-other, value-put}
 use Rattle.rules_store.specs.laws.Word.{value-putValue}
-use Rattle.rules_store.specs.Part.{Part, block, count, chart, due, sampled as «samples-part», computed, buffered, just, also, everything, Leaves}
+use Rattle.rules_store.specs.Part.{Part, block, count, untrues, chart, due, sampled as «samples-part», computed, buffered, just, also, everything, Leaves}
 use Rattle.rules_store.specs.Part.{input as «inputs-part»}
 use Rattle.rules_store.specs.laws.Part.{leaves-all, leaves-then}
 use Rattle.rules_store.specs.laws.Writer.{leaves-running, leaves-value as «Writer·leaves-value»}
@@ -34,10 +34,10 @@ use Rattle.rules_moves.specs.laws.Partner.{partner-output}
 use Rattle.rules_moves.specs.Carry.{voice, speaks}
 use Rattle.rules_moves.specs.Associated.{associated}
 use Rattle.rules_moves.specs.Chart.{change, goIdle}
-use Rattle.rules_moves.specs.Act.{oneStep, stepMove, eventOf, endMove}
+use Rattle.rules_moves.specs.Act.{countUntrue, eventOf, endMove}
 use Rattle.rules_moves.specs.Take.{sampled, passes, startStop, wake, settle, settled, firedBy, fireFound, taken}
 use Rattle.rules_moves.specs.laws.Taking.{sampled-value, sampled-leaves, passes-leaves, start-stop-leaves, wake-leaves, settled-leaves, fire-found-leaves}
-use Rattle.rules_moves.specs.laws.Moving.{change-leaves, idle-leaves}
+use Rattle.rules_moves.specs.laws.Moving.{change-leaves, idle-leaves, count-leaves}
 use Rattle.rules_traces.specs.declared.Entry.{Entry}
 use Rattle.rules_traces.specs.Gather.{gather}
 use Rattle.rules_traces.specs.Kinds.{chartKind, internalKind, inputKind, outputKind}
@@ -147,16 +147,21 @@ module _ (T : List ℕ) (S : Shape) where
           one-chart s y el l (λ c m ne. z .charts refl c m ∙ chart-other S s el c q ne) (leaves-value s y (also block (just chart)) w refl refl)
           ∙ ap (λ (a : ℕ). differing (chartState s el) (entry chartKind el 0 a)) (z .charts refl el l ∙ chart-put S s long el q l)
 
-      -- ---- move 4: the value of variable v, which gets x
-      module _ (v x : ℕ) (r : Running) (l : v < variables S) where
+      -- ---- move 4: the value of variable v, which gets x; u untrue steps are counted, and have no frame
+      module _ (v x u : ℕ) (r : Running) (l : v < variables S) where
         abbrev put : List ℕ
-        put = putRunning r (putValue S v x s)
+        put = putRunning r (countUntrue u (putValue S v x s))
 
-        rest : Leaves T S (just block) (putValue S v x s) put
-        rest = leaves-running T S (just block) (putValue S v x s) r refl
+        abbrev uncounted : Part → Bool
+        uncounted = also block (just untrues)
+
+        rest : Leaves T S uncounted (putValue S v x s) put
+        rest =
+            let y = putValue S v x s in
+            leaves-then T S uncounted y (countUntrue u y) put (leaves-running T S uncounted (countUntrue u y) r refl) (count-leaves T S k uncounted refl u y)
 
         put-value : value S put v ≡ x
-        put-value = leaves-value (putValue S v x s) put (just block) rest refl refl v l ∙ value-put S s long v x l
+        put-value = leaves-value (putValue S v x s) put uncounted rest refl refl v l ∙ value-put S s long v x l
 
         put-chart : (el : ℕ) → el < elements S → chartState put el ≡ chartState s el
         put-chart el h = rest .charts refl el h ∙ «Writer·leaves-value» T S (also «samples-part» (just computed)) s v x l (λ e. clash (sym e)) (λ e. clash (sym e)) .charts refl el h
@@ -166,7 +171,7 @@ module _ (T : List ℕ) (S : Shape) where
         in-role role kind e = own-role s put role kind v e ∙ ap (λ (a : ℕ). differing (value S s v) (entry kind (variableOwner T S v) v a)) put-value
 
         alone : changes T S s put ≡ valueEntry T S internal internalKind s put v ++ valueEntry T S input inputKind s put v ++ valueEntry T S output outputKind s put v
-        alone = one-change s put v l put-chart (λ u m n. leaves-value (putValue S v x s) put (just block) rest refl refl u m ∙ value-putValue S s v u x n)
+        alone = one-change s put v l put-chart (λ u m n. leaves-value (putValue S v x s) put uncounted rest refl refl u m ∙ value-putValue S s v u x n)
 
         pub internal-changes : flagAt T (variableFrame S v) ≡ internal → changes T S s put ≡ differing (value S s v) (entry internalKind (variableOwner T S v) v x)
         internal-changes e =

@@ -9,7 +9,7 @@ use Rattle.rules_tables.specs.declared.Shape.{Shape}
 use Rattle.rules_store.specs.declared.Running.{Running}
 use Rattle.rules_store.specs.Running.{stepped, charting, entered}
 use Rattle.rules_store.specs.Layout.{elementAt, variableAt}
-use Rattle.rules_store.specs.Word.{runningOf, putRunning, putChartState, putValue}
+use Rattle.rules_store.specs.Word.{runningOf, putRunning, untrue, putUntrue, putChartState, putValue}
 use Rattle.rules_store.specs.laws.Part.{same-block}
 
 -- ---- what leaves it: r is the running block before and after
@@ -21,11 +21,19 @@ pub value-runs : (S : Shape) (s : List ℕ) (v x : ℕ) {s′ : List ℕ} {r : R
 unfolding putValue variableAt
 value-runs S s v x p e = rw p (e ∙ sym (same-block s (set s (variableAt S v) x) (λ k a b. getD-set-other s (variableAt S v) k x 0 (λ z. omega arith)) .running))
 
+pub untrue-runs : (s : List ℕ) (n : ℕ) {s′ : List ℕ} {r : Running} → s′ ≡ putUntrue n s → r ≡ runningOf s → r ≡ runningOf s′
+unfolding putUntrue
+untrue-runs s n p e = rw p (e ∙ sym (same-block s (set s 11 n) (λ k a b. getD-set-other s 11 k n 0 (λ z. omega arith)) .running))
+
 -- ---- a word that stays
 back : (s : List ℕ) (k : ℕ) → set s k (getD s k 0) ≡ s
 back [] k = refl
 back (x ∷ s) zero = refl
 back (x ∷ s) (suc k) = ap (λ (l : List ℕ). x ∷ l) (back s k)
+
+pub untrue-stays : (s : List ℕ) → putUntrue (untrue s) s ≡ s
+unfolding putUntrue untrue
+untrue-stays s = back s 11
 
 module _ (s : List ℕ) {r : Running} (read : r ≡ runningOf s) where
   pub only-step : set s 7 (r .step + 1) ≡ putRunning (stepped r) s

@@ -7,17 +7,18 @@ use mathlib.Core.Logic.{⊎-elim}
 use lib.ListN.{length}
 use Rattle.moves_tell.specs.laws.Sizing.{first-room}
 use Rattle.calls_run.specs.laws.Plenty.{telling}
-use Rattle.calls_run.proofs.Going.{Going, going-start, going-more, comes-next, room-left, budget-left}
+use Rattle.calls_run.proofs.Going.{Going, going-start, going-more, comes-next, room-left, budget-left, untrue-left}
 use Rattle.calls_run.proofs.Tracing.{Tracked, tracked-start, tracked-more, run-done, run-goes-on, space-if, told-here, not-told-here, numbers-room, told-both}
 use borrow.Author.Needs.{needs}
 use Rattle.calls_run.proofs.running.make_moves.Statement.{statement}
 use Rattle.calls_run.proofs.running.make_moves.Tie as tie
 
 abbrev Inv-loop : tie.InvT-loop
-Inv-loop t ix store₀ shape time budget out₀ trace₀ tracing n₀ at₀ p₀ store out trace n at p = Going t shape time budget store₀ out₀ store out n at × Tracked tracing t shape time store₀ trace₀ trace n p × (length store ≡ length store₀)
+Inv-loop t ix store₀ shape time budget out₀ trace₀ tracing n₀ at₀ p₀ untrue₀ store out trace n at p untrue =
+    Going t shape time budget store₀ out₀ store out n at untrue × Tracked tracing t shape time store₀ trace₀ trace n p × (length store ≡ length store₀)
 
 abbrev μ-loop : tie.MeasureT-loop
-μ-loop t ix store₀ shape time budget out₀ trace₀ tracing n₀ at₀ p₀ store out trace n at p = budget - n
+μ-loop t ix store₀ shape time budget out₀ trace₀ tracing n₀ at₀ p₀ untrue₀ store out trace n at p untrue = budget - n
 
 loop-holds : tie.Need-loop-holds Inv-loop μ-loop
 loop-holds c = (going-start _ _ _ _ _ _, tracked-start _ _ _ _ _ _, refl)
@@ -38,7 +39,7 @@ asked-requires c κs =
       telling _ _ _ _ _ _ (start .0) (start .1) (start .2) (start .3) (inv .0 .store) (c .before .before .before .running .ensures) (c .before .next-move .ensures .0),
       omega (arith, inv .0 .fits, inv .0 .long),
       inv .1 .fits,
-      c .before .before .before .before .before .before .before .before .before .before .pre .4,
+      start .4,
     )
 
 tell-requires : tie.Need-tell-requires Inv-loop μ-loop
@@ -47,7 +48,7 @@ tell-requires c κs =
     let inv = c .before .before .before .before .before .before .before .before .before .before .loop .inv in
     let tells = telling _ _ _ _ _ _ (start .0) (start .1) (start .2) (start .3) (inv .0 .store) (c .before .before .before .before .before .before .before .before .running .ensures) (c .before .before .before .before .before .before .next-move .ensures .0) in
     let comes = comes-next _ _ _ (c .before .before .before .before .before .before .before .before .running .ensures) (c .before .before .before .before .before .before .next-move .ensures .0) in
-    let space = space-if _ _ _ _ _ _ _ _ _ _ _ _ _ _ (inv .0) (inv .1) comes (sym (c .before .before .before .if1 .left) ∙ c .before .before .before .before .asked .ensures) in
+    let space = space-if _ _ _ _ _ _ _ _ _ _ _ _ _ _ _ (inv .0) (inv .1) comes (sym (c .before .before .before .if1 .left) ∙ c .before .before .before .before .asked .ensures) in
     (tells, first-room _ _ _ _ _ _ tells _ _ (space (c .before .before .if2 .taken)), start .4)
 
 make-told-requires : tie.Need-make-told-requires Inv-loop μ-loop
@@ -57,29 +58,30 @@ make-told-requires c κs =
     let tells = telling _ _ _ _ _ _ (start .0) (start .1) (start .2) (start .3) (inv .0 .store) (c .before .before .before .before .before .before .before .before .before .running .ensures) (c .before .before .before .before .before .before .before .next-move .ensures .0) in
     let comes = comes-next _ _ _ (c .before .before .before .before .before .before .before .before .before .running .ensures) (c .before .before .before .before .before .before .before .next-move .ensures .0) in
     let go = sym (c .before .before .before .before .if1 .left) ∙ c .before .before .before .before .before .asked .ensures in
-    let space = space-if _ _ _ _ _ _ _ _ _ _ _ _ _ _ (inv .0) (inv .1) comes go in
+    let space = space-if _ _ _ _ _ _ _ _ _ _ _ _ _ _ _ (inv .0) (inv .1) comes go in
     let first =
     ⊎-elim (λ w. told-here _ _ _ _ (first-room _ _ _ _ _ _ tells _ _ (space (w .0 .taken))) (w .3 .ensures) (w .6) (w .7))
     (λ w. not-told-here _ _ _ _ (inv .1 .fits) (w .0 .left) (w .1) (w .2)) (c .before .before .before .if2 .came) in (
       tells,
-      room-left _ _ _ _ _ _ _ _ _ _ (inv .0) comes (run-goes-on _ _ _ _ _ _ _ _ _ _ _ _ _ _ (inv .0) (inv .1) comes go),
+      room-left _ _ _ _ _ _ _ _ _ _ _ (inv .0) comes (run-goes-on _ _ _ _ _ _ _ _ _ _ _ _ _ _ _ (inv .0) (inv .1) comes go),
       (let h = first .fits in h),
       numbers-room _ _ _ _ _ _ tells _ _ _ first space,
       start .4,
+      (let w = untrue-left _ _ _ _ _ _ _ _ _ _ _ (inv .0) comes (run-goes-on _ _ _ _ _ _ _ _ _ _ _ _ _ _ _ (inv .0) (inv .1) comes go) in let f = c .before .before .before .before .before .before .before .before .before .before .before .before .before .before .before .before .fits .budget in omega arith),
     )
 
 add-n : tie.Need-add-n Inv-loop μ-loop
 add-n c =
     let inv = c .before .before .before .before .before .before .before .before .before .before .before .before .before .before .before .before .before .before .loop .inv in
     let comes = comes-next _ _ _ (c .before .before .before .before .before .before .before .before .before .before .before .before .before .before .before .before .running .ensures) (c .before .before .before .before .before .before .before .before .before .before .before .before .before .before .next-move .ensures .0) in
-    let w = budget-left _ _ _ _ _ _ _ _ _ _ (inv .0) comes (run-goes-on _ _ _ _ _ _ _ _ _ _ _ _ _ _ (inv .0) (inv .1) comes (sym (c .before .before .before .before .before .before .before .before .before .before .before .if1 .left) ∙ c .before .before .before .before .before .before .before .before .before .before .before .before .asked .ensures)) in
+    let w = budget-left _ _ _ _ _ _ _ _ _ _ _ (inv .0) comes (run-goes-on _ _ _ _ _ _ _ _ _ _ _ _ _ _ _ (inv .0) (inv .1) comes (sym (c .before .before .before .before .before .before .before .before .before .before .before .if1 .left) ∙ c .before .before .before .before .before .before .before .before .before .before .before .before .asked .ensures)) in
     let f = c .before .before .before .before .before .before .before .before .before .before .before .before .before .before .before .before .before .before .before .before .before .before .before .fits .budget in omega arith
 
 loop-less : tie.Need-loop-less Inv-loop μ-loop
 loop-less c =
     let inv = c .before .before .before .before .before .before .before .before .before .before .before .before .before .before .before .before .before .before .loop .inv in
     let comes = comes-next _ _ _ (c .before .before .before .before .before .before .before .before .before .before .before .before .before .before .before .before .running .ensures) (c .before .before .before .before .before .before .before .before .before .before .before .before .before .before .next-move .ensures .0) in
-    let w = budget-left _ _ _ _ _ _ _ _ _ _ (inv .0) comes (run-goes-on _ _ _ _ _ _ _ _ _ _ _ _ _ _ (inv .0) (inv .1) comes (sym (c .before .before .before .before .before .before .before .before .before .before .before .if1 .left) ∙ c .before .before .before .before .before .before .before .before .before .before .before .before .asked .ensures)) in
+    let w = budget-left _ _ _ _ _ _ _ _ _ _ _ (inv .0) comes (run-goes-on _ _ _ _ _ _ _ _ _ _ _ _ _ _ _ (inv .0) (inv .1) comes (sym (c .before .before .before .before .before .before .before .before .before .before .before .if1 .left) ∙ c .before .before .before .before .before .before .before .before .before .before .before .before .asked .ensures)) in
     omega arith
 
 loop-again : tie.Need-loop-again Inv-loop μ-loop
@@ -89,12 +91,12 @@ loop-again c =
     let tells = telling _ _ _ _ _ _ (start .0) (start .1) (start .2) (start .3) (inv .0 .store) (c .before .before .before .before .before .before .before .before .before .before .before .before .before .before .before .before .running .ensures) (c .before .before .before .before .before .before .before .before .before .before .before .before .before .before .next-move .ensures .0) in
     let comes = comes-next _ _ _ (c .before .before .before .before .before .before .before .before .before .before .before .before .before .before .before .before .running .ensures) (c .before .before .before .before .before .before .before .before .before .before .before .before .before .before .next-move .ensures .0) in
     let go = sym (c .before .before .before .before .before .before .before .before .before .before .before .if1 .left) ∙ c .before .before .before .before .before .before .before .before .before .before .before .before .asked .ensures in
-    let space = space-if _ _ _ _ _ _ _ _ _ _ _ _ _ _ (inv .0) (inv .1) comes go in
+    let space = space-if _ _ _ _ _ _ _ _ _ _ _ _ _ _ _ (inv .0) (inv .1) comes go in
     let first =
     ⊎-elim (λ w. told-here _ _ _ _ (first-room _ _ _ _ _ _ tells _ _ (space (w .0 .taken))) (w .3 .ensures) (w .6) (w .7))
     (λ w. not-told-here _ _ _ _ (inv .1 .fits) (w .0 .left) (w .1) (w .2)) (c .before .before .before .before .before .before .before .before .before .before .if2 .came) in (
-      going-more _ _ _ _ _ _ _ _ _ _ (inv .0) comes (run-goes-on _ _ _ _ _ _ _ _ _ _ _ _ _ _ (inv .0) (inv .1) comes go) _ _ (c .before .before .before .before .before .before .make-told .ensures .0),
-      tracked-more _ _ _ _ _ _ _ _ _ _ _ _ _ _ (inv .0) (inv .1) comes go (told-both _ _ _ _ _ _ tells _ _ _ first (c .before .before .before .before .before .before .make-told .ensures .1)),
+      going-more _ _ _ _ _ _ _ _ _ _ _ (inv .0) comes (run-goes-on _ _ _ _ _ _ _ _ _ _ _ _ _ _ _ (inv .0) (inv .1) comes go) _ _ (c .before .before .before .before .before .before .make-told .ensures .0),
+      tracked-more _ _ _ _ _ _ _ _ _ _ _ _ _ _ _ (inv .0) (inv .1) comes go (told-both _ _ _ _ _ _ tells _ _ _ first (c .before .before .before .before .before .before .make-told .ensures .1)),
       search needs,
     )
 
@@ -110,7 +112,7 @@ same-length-3 c = search needs
 returns : tie.Need-returns Inv-loop μ-loop
 returns c =
     let inv = c .before .before .before .before .before .before .before .loop .inv in
-    run-done _ _ _ _ _ _ _ _ _ _ _ _ _ _ (inv .0) (inv .1) (comes-next _ _ _ (c .before .before .before .before .before .running .ensures) (c .before .before .before .next-move .ensures .0)) (c .before .asked .ensures) (c .if1 .taken)
+    run-done _ _ _ _ _ _ _ _ _ _ _ _ _ _ _ (inv .0) (inv .1) (comes-next _ _ _ (c .before .before .before .before .before .running .ensures) (c .before .before .before .next-move .ensures .0)) (c .before .asked .ensures) (c .if1 .taken)
 
 pub make-moves-spec : {M : Type 1} → statement M
 make-moves-spec =

@@ -6,11 +6,8 @@ use lib.Seq.{length-take-le}
 use Rattle.cases_main.proofs.ask.outcome.Statement.{statement}
 use Rattle.cases_main.proofs.ask.outcome.Tie as tie
 
-operate-words-requires : tie.Need-operate-words-requires
-operate-words-requires c κs = search needs
-
-cast-t6 : tie.Need-cast-t6
-cast-t6 c = search needs
+result-requires : tie.Need-result-requires
+result-requires c κs = search needs
 
 returns : tie.Need-returns
 returns c = search needs
@@ -61,8 +58,7 @@ pub outcome-spec : {M : Type 1} → statement M
 outcome-spec =
     tie.close
     (tie.spec
-    operate-words-requires
-    cast-t6
+    result-requires
     returns
     tables-requires
     array-share-prefix-t

@@ -33,6 +33,9 @@ recorded-requires c κs = search needs
 due-requires : tie.Need-due-requires
 due-requires c κs = search needs
 
+counted-requires : tie.Need-counted-requires
+counted-requires c κs = search needs
+
 returns : tie.Need-returns
 returns c = search needs
 
@@ -41,6 +44,9 @@ returns-2 c = search needs
 
 returns-3 : tie.Need-returns-3
 returns-3 c = search needs
+
+returns-4 : tie.Need-returns-4
+returns-4 c = search needs
 
 pub outcome-on-spec : {M : Type 1} → statement M
 outcome-on-spec =
@@ -55,6 +61,8 @@ outcome-on-spec =
     answered-requires
     recorded-requires
     due-requires
+    counted-requires
     returns
     returns-2
-    returns-3)
+    returns-3
+    returns-4)

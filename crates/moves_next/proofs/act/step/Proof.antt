@@ -1,6 +1,6 @@
 -- `step` meets its contract: the step, and the running block after it, which the step leaves (`step-runs`).
+use Rattle.moves_next.proofs.Turns.{stepped-on, stepped-untrue, step-runs}
 use borrow.Author.Needs.{needs}
-use Rattle.moves_next.proofs.Turns.{stepped-on, step-runs}
 use Rattle.moves_next.proofs.act.step.Statement.{statement}
 use Rattle.moves_next.proofs.act.step.Tie as tie
 
@@ -14,13 +14,16 @@ one-step-requires : tie.Need-one-step-requires
 one-step-requires c κs = search needs
 
 put-stepped-requires : tie.Need-put-stepped-requires
-put-stepped-requires c κs = (step-runs _ _ _ _ _ (c .before .before .before .one-step .ensures) (c .before .before .before .before .before .before .before .before .before .pre .4), c .before .before .before .before .before .before .before .before .before .pre .2)
+put-stepped-requires c κs = (step-runs _ _ _ _ _ (c .before .before .before .one-step .ensures .0) (c .before .before .before .before .before .before .before .before .before .pre .4), c .before .before .before .before .before .before .before .before .before .pre .2)
 
 same-length : tie.Need-same-length
 same-length c = search needs
 
 returns : tie.Need-returns
-returns c = stepped-on _ _ _ _ _ _ _ (c .before .before .before .before .before .before .before .before .step-frame .ensures .is) (c .before .before .before .before .before .before .before .since .ensures .0) (c .before .before .before .before .before .before .one-step .ensures) (c .before .before .put-stepped .ensures)
+returns c = (
+  stepped-on _ _ _ _ _ _ _ (c .before .before .before .before .before .before .before .before .step-frame .ensures .is) (c .before .before .before .before .before .before .before .since .ensures .0) (c .before .before .before .before .before .before .one-step .ensures .0) (c .before .before .put-stepped .ensures),
+  stepped-untrue _ _ _ _ _ (c .before .before .before .before .before .before .before .before .step-frame .ensures .is) (c .before .before .before .before .before .before .before .since .ensures .0) (c .before .before .before .before .before .before .one-step .ensures .1),
+)
 
 pub step-spec : {M : Type 1} → statement M
 step-spec =

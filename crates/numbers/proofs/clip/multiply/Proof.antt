@@ -1,6 +1,7 @@
--- `number::clip::multiply` meets its contract: the product of two `i32` fits an `i64` (`signs`), and `narrow` clips it.
-use mathlib.Core.Path.{_∙_}
-use Rattle.numbers.proofs.Signs.{signs, handed}
+-- `multiply` meets its contract: the product of two `i32` fits an `i64` (`signs`), and `narrow` clips it.
+use mathlib.Core.Path.{ap, _∙_}
+use Rattle.rules_numbers.specs.Truth.{clipped}
+use Rattle.numbers.proofs.Signs.{signs}
 use Rattle.numbers.proofs.clip.multiply.Statement.{statement}
 use Rattle.numbers.proofs.clip.multiply.Tie as tie
 
@@ -17,7 +18,7 @@ narrow-requires : tie.Need-narrow-requires
 narrow-requires c κs = search signs
 
 returns : tie.Need-returns
-returns c = handed (c .narrow .ok) (c .narrow .ensures) ∙ search signs
+returns c = c .narrow .ensures ∙ ap clipped (search signs)
 
 pub multiply-spec : {M : Type 1} → statement M
 multiply-spec = tie.close (tie.spec cast-narrow cast-narrow-2 mul-narrow narrow-requires returns)

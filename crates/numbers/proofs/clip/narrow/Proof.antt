@@ -1,29 +1,46 @@
--- `number::clip::narrow` meets its contract: its two tests are those of `clip`.
-use mathlib.Core.Path.{_∙_, sym}
+-- `narrow` meets its contract: its two tests are those of `clip`.
+use mathlib.Core.Path.{ap, _∙_}
+use borrow.Author.Needs.{needs}
 use mir.Facts.{toZ-ofZ}
-use Rattle.rules_walks.specs.laws.Choose.{choose-true, choose-false}
-use Rattle.rules_numbers.specs.Clip.{clip}
-use Rattle.numbers.proofs.Signs.{within, kept}
+use Rattle.rules_numbers.specs.Truth.{itself}
+use Rattle.numbers.proofs.Signs.{within, clipped-low, clipped-high, clipped-kept}
 use Rattle.numbers.proofs.clip.narrow.Statement.{statement}
 use Rattle.numbers.proofs.clip.narrow.Tie as tie
 
-cast-result : tie.Need-cast-result
-cast-result c = within _ (c .before .if1 .left) (c .if2 .left)
+untrue-requires : tie.Need-untrue-requires
+untrue-requires c κs = search needs
+
+untrue-requires-2 : tie.Need-untrue-requires-2
+untrue-requires-2 c κs = search needs
+
+cast-exact : tie.Need-cast-exact
+cast-exact c = within _ (c .before .if1 .left) (c .if2 .left)
+
+exact-requires : tie.Need-exact-requires
+exact-requires c κs = search needs
 
 returns : tie.Need-returns
-unfolding clip
-returns c = sym (choose-true _ _ _ (rw (toZ-ofZ (c .before .fits .x)) at (c .if1 .taken)))
+returns c = let s = c .before .before in c .untrue .ensures ∙ clipped-low (s .args .x) (rw (toZ-ofZ (s .fits .x)) at (c .before .if1 .taken))
 
 returns-2 : tie.Need-returns-2
-unfolding clip
 returns-2 c =
-    let f = c .before .before .fits .x in
-    sym (choose-false _ _ _ (rw (toZ-ofZ f) at (c .before .if1 .left)) ∙ choose-true _ _ _ (rw (toZ-ofZ f) at (c .if2 .taken)))
+    let s = c .before .before .before in
+    c .untrue2 .ensures ∙ clipped-high (s .args .x) (rw (toZ-ofZ (s .fits .x)) at (c .before .before .if1 .left)) (rw (toZ-ofZ (s .fits .x)) at (c .before .if2 .taken))
 
 returns-3 : tie.Need-returns-3
 returns-3 c =
-    let f = c .before .before .fits .x in
-    toZ-ofZ (cast-result c) ∙ toZ-ofZ f ∙ kept _ (rw (toZ-ofZ f) at (cast-result c))
+    let s = c .before .before .before in
+    c .exact .ensures ∙ ap itself (toZ-ofZ (cast-exact (c .before)) ∙ toZ-ofZ (s .fits .x))
+    ∙ clipped-kept (s .args .x) (rw (toZ-ofZ (s .fits .x)) at (cast-exact (c .before)))
 
 pub narrow-spec : {M : Type 1} → statement M
-narrow-spec = tie.close (tie.spec cast-result returns returns-2 returns-3)
+narrow-spec =
+    tie.close
+    (tie.spec
+    untrue-requires
+    untrue-requires-2
+    cast-exact
+    exact-requires
+    returns
+    returns-2
+    returns-3)

@@ -1,7 +1,8 @@
--- `number::clip::negate` meets its contract: the machine negates by 0 - b, which fits an `i64` (`signs`), and `narrow` clips it.
-use mathlib.Core.Path.{_∙_}
+-- `negate` meets its contract: the machine negates by 0 - b, which fits an `i64` (`signs`), and `narrow` clips it.
+use mathlib.Core.Path.{ap, _∙_}
 use lib.IntN.{negℤ, +ℤ-idl}
-use Rattle.numbers.proofs.Signs.{signs, handed}
+use Rattle.rules_numbers.specs.Truth.{clipped}
+use Rattle.numbers.proofs.Signs.{signs}
 use Rattle.numbers.proofs.clip.negate.Statement.{statement}
 use Rattle.numbers.proofs.clip.negate.Tie as tie
 
@@ -15,7 +16,7 @@ narrow-requires : tie.Need-narrow-requires
 narrow-requires c κs = search signs
 
 returns : tie.Need-returns
-returns c = handed (c .narrow .ok) (c .narrow .ensures) ∙ rw (← +ℤ-idl (negℤ (c .before .args .b))) (search signs)
+returns c = c .narrow .ensures ∙ ap clipped (rw (← +ℤ-idl (negℤ (c .before .args .b))) (search signs))
 
 pub negate-spec : {M : Type 1} → statement M
 negate-spec = tie.close (tie.spec cast-narrow sub-narrow narrow-requires returns)

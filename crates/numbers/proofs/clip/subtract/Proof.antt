@@ -1,6 +1,7 @@
--- `number::clip::subtract` meets its contract: the difference of two `i32` fits an `i64` (`signs`), and `narrow` clips it.
-use mathlib.Core.Path.{_∙_}
-use Rattle.numbers.proofs.Signs.{signs, handed}
+-- `subtract` meets its contract: the difference of two `i32` fits an `i64` (`signs`), and `narrow` clips it.
+use mathlib.Core.Path.{ap, _∙_}
+use Rattle.rules_numbers.specs.Truth.{clipped}
+use Rattle.numbers.proofs.Signs.{signs}
 use Rattle.numbers.proofs.clip.subtract.Statement.{statement}
 use Rattle.numbers.proofs.clip.subtract.Tie as tie
 
@@ -17,7 +18,7 @@ narrow-requires : tie.Need-narrow-requires
 narrow-requires c κs = search signs
 
 returns : tie.Need-returns
-returns c = handed (c .narrow .ok) (c .narrow .ensures) ∙ search signs
+returns c = c .narrow .ensures ∙ ap clipped (search signs)
 
 pub subtract-spec : {M : Type 1} → statement M
 subtract-spec = tie.close (tie.spec cast-narrow cast-narrow-2 sub-narrow narrow-requires returns)

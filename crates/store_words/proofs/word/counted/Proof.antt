@@ -1,9 +1,9 @@
--- `counted` meets its contract by cases: not waiting, below the end, at the end.
+-- `counted` meets its contract by cases: not to be counted, below the end, at the end.
 use borrow.Author.Needs.{needs}
-use Rattle.moves_fire.proofs.counted.Statement.{statement}
-use Rattle.rules_moves.specs.Fire.{counted}
+use Rattle.store_words.proofs.word.counted.Statement.{statement}
+use Rattle.rules_store.specs.Word.{counted}
 use borrow.Author.Tests.{lt-ltb, le-ltb, ne-eqb}
-use Rattle.moves_fire.proofs.counted.Tie as tie
+use Rattle.store_words.proofs.word.counted.Tie as tie
 
 returns : tie.Need-returns
 unfolding counted
