@@ -161,6 +161,11 @@ pub step-untrue : map (λ (op : ℕ). untrueStep (frame 9 op 0 1 2 0) (frames 0 
 unfolding stepOutcome untrueStep outcome trueValue operation clip quotient choose value variableAt inputs variables flagAt fieldAt halfAt
 step-untrue = refl
 
+-- a result that goes into its own operand is judged by the operands as they were: 1073741823 doubled is true, and doubled once more would not be
+pub step-into-itself : at (11 ∷ 16 ∷ []) (oneStep (frame 9 1 0 0 0 0) (frames 0 0 0 3 0 0 0) 0 0 (replicate 16 0 ++ (1073741823 ∷ 0 ∷ 0 ∷ 0 ∷ 0 ∷ 0 ∷ []))) ≡ 0 ∷ 2147483646 ∷ []
+unfolding oneStep stepOutcome resultPut untrueStep countUntrue counted outcome trueValue operation clip choose putValue value untrue putUntrue variableAt inputs variables flagAt fieldAt halfAt
+step-into-itself = refl
+
 -- ---- "Delay: START sets due to now + DT (a negative DT counts as 0), STOP clears it.": DT is 50, at 9
 abbrev delaying : List ℕ
 delaying = frame 1 2 0 0 0 0 ++ frame 2 0 0 0 0 0 ++ frame 2 1 0 0 0 0 ++ frame 4 0 0 0 0 0
