@@ -220,7 +220,7 @@ enum {
  * A step is untrue where its result is not what the operation gives in whole numbers: the result lay outside the signed range and became
  * the nearest end, or the divisor was 0 and the result is 0 (also of 0 by 0). A result that lies exactly at an end is true, and so is a
  * quotient that was rounded toward zero. Each run tells how many untrue steps it made; XAL_WORD_UNTRUE has those of all runs since load, up
- * to its end. A value that stands at the end of its range while the count rises is stuck there.
+ * to its end. Where the count rises, a value that stands at an end of its range may be stuck there.
  */
 
 /* ---- Traces
