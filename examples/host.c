@@ -28,8 +28,8 @@ static const uint8_t table[] = {
     FRAME(XAL_KIND_ELEMENT, XAL_SORT_SINK, 5, 0, 0, 0, 0),
     FRAME(XAL_KIND_EVENT_INPUT, 0, 1, 0, 0, 0, 0),                    /* event input 0: PUSHED of the control; the flag is the local priority */
     FRAME(XAL_KIND_EVENT_INPUT, 1, 1, 0, 0, 0, 0),                    /* event input 1: ELAPSED of the control */
-    FRAME(XAL_KIND_EVENT_INPUT, 0, 2, 0, 0, 0, 0),                    /* event input 2: START of the timer */
-    FRAME(XAL_KIND_EVENT_INPUT, 1, 2, 0, 0, 0, 0),                    /* event input 3: STOP of the timer */
+    FRAME(XAL_KIND_EVENT_INPUT, 1, 2, 0, 0, 0, 0),                    /* event input 2: START of the timer */
+    FRAME(XAL_KIND_EVENT_INPUT, 0, 2, 0, 0, 0, 0),                    /* event input 3: STOP of the timer; where both wait it is taken first */
     FRAME(XAL_KIND_EVENT_INPUT, 0, 3, 0, 0, 0, 0),                    /* event inputs 4, 5 and 6: SET of the lamps */
     FRAME(XAL_KIND_EVENT_INPUT, 0, 4, 0, 0, 0, 0),
     FRAME(XAL_KIND_EVENT_INPUT, 0, 5, 0, 0, 0, 0),
@@ -63,7 +63,8 @@ static const uint8_t table[] = {
     FRAME(XAL_KIND_STEP, XAL_OP_COPY, 1, 3, 0, 0, 0),                 /* step 1: LIT = ON */
     FRAME(XAL_KIND_STEP, XAL_OP_ADD, 9, 9, 8, 0, 0),                  /* step 2: BURNT = BURNT + ASKED */
     FRAME(XAL_KIND_EVENT_CONNECTION, 0, 0, 0, 0, 0, 0),               /* PUSH to PUSHED */
-    FRAME(XAL_KIND_EVENT_CONNECTION, 0, 0, 2, 0, 0, 0),               /* PUSH to START: each push starts the timer anew */
+    FRAME(XAL_KIND_EVENT_CONNECTION, 0, 0, 3, 0, 0, 0),               /* PUSH to STOP and to START: each push starts the timer anew, since a */
+    FRAME(XAL_KIND_EVENT_CONNECTION, 0, 0, 2, 0, 0, 0),               /* START alone has no effect while it runs */
     FRAME(XAL_KIND_EVENT_CONNECTION, 0, 1, 4, 0, 0, 0),               /* SWITCHED to each SET */
     FRAME(XAL_KIND_EVENT_CONNECTION, 0, 1, 5, 0, 0, 0),
     FRAME(XAL_KIND_EVENT_CONNECTION, 0, 1, 6, 0, 0, 0),

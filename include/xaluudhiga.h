@@ -63,7 +63,7 @@ enum {
 enum {
     XAL_SORT_BASIC = 0,     /* has a state chart */
     XAL_SORT_INTERFACE = 1, /* passes events and values on */
-    XAL_SORT_DELAY = 2,     /* event inputs START and STOP, one event output, one input variable DT */
+    XAL_SORT_DELAY = 2,     /* event inputs START and STOP, one event output, one input variable DT; a START while it runs has no effect */
     XAL_SORT_SOURCE = 3,    /* its events arrive from outside */
     XAL_SORT_SINK = 4       /* its events leave as records */
 };

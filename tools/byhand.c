@@ -588,8 +588,10 @@ static void take(struct run *r, unsigned taken) {
     case DELAY: {
         const int32_t dt = (int32_t)r->values[2 * m->timer[in->element]];
         uint32_t *due = r->elements + 3 * in->element + 1;
-        due[0] = taken == m->start[in->element];
-        due[1] = due[0] ? r->now + (uint32_t)(dt < 0 ? 0 : dt) : 0;
+        const int starts = taken == m->start[in->element];
+        if (starts && due[0]) break; // it counts from the first START
+        due[0] = starts;
+        due[1] = starts ? r->now + (uint32_t)(dt < 0 ? 0 : dt) : 0;
         break;
     }
     case SINK:

@@ -226,8 +226,8 @@ fn judge_time(state: &State, to: u32) -> Result<(), Refusal> {
 fn expire<W: Watch>(machine: &mut Machine<W>, time: u32) {
     for element in 0..machine.model.elements.len() {
         if machine.state.due[element] == Some(time) {
-            machine.watch.see(Sight::Expired);
             machine.state.due[element] = None;
+            machine.watch.see(Sight::Expired(machine.cleared(element)));
             machine.fire(machine.model.elements[element].event_outputs[0], time);
         }
     }

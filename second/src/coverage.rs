@@ -4,6 +4,7 @@
 
 use crate::arithmetic::Outcome;
 use crate::calls::{stop, Held};
+use crate::delays::{DelayCoverage, StartCoverage};
 use crate::model::ElementKind;
 use crate::reader::{Ending, Fault};
 use crate::store::word;
@@ -36,23 +37,25 @@ pub struct Coverage {
     pub refused_kinds: [[u64; KINDS + 1]; 3],
     pub overwritten: u64,
     pub chained: u64,
-    pub started_again: u64,
     pub stopped_in_time: u64,
     pub expired: u64,
     pub records: u64,
+    pub starts: StartCoverage,
+    pub delays: DelayCoverage,
 }
 
 impl Watch for Coverage {
     fn see(&mut self, sight: Sight) {
+        self.starts.see(sight);
+        self.delays.see(sight);
         match sight {
             Sight::Element(kind) => self.element_kinds[place_of(kind)] += 1,
             Sight::Step { operation, .. } => self.operations[usize::from(operation)] += 1,
             Sight::Guard(number) => self.guards[usize::from(number)] += 1,
             Sight::Overwritten => self.overwritten += 1,
             Sight::Chained => self.chained += 1,
-            Sight::StartedAgain => self.started_again += 1,
-            Sight::StoppedInTime => self.stopped_in_time += 1,
-            Sight::Expired => self.expired += 1,
+            Sight::StoppedInTime(_) => self.stopped_in_time += 1,
+            Sight::Expired(_) => self.expired += 1,
             Sight::Record => self.records += 1,
             Sight::Malformed => self.malformed += 1,
             Sight::Stopped { moves, stop } => {
@@ -60,6 +63,8 @@ impl Watch for Coverage {
                 self.stops[usize::from(stop)] += 1;
             }
             Sight::Refused { number, kind } => self.see_refusal(number, kind),
+            // Counted with their delays.
+            Sight::Loaded | Sight::Started { .. } | Sight::StartIgnored { .. } => {}
             // No answer of the step program tells any of these.
             Sight::Traced(_) | Sight::Held(_) | Sight::Read(_) => {}
             Sight::Counted { .. } | Sight::NotZero(_) => {}
@@ -120,7 +125,7 @@ impl Coverage {
             cells.extend(self.refused_kind_cells(place, row));
         }
         cells.extend(named("seen", SEEN, self.seen()));
-        cells.into_iter()
+        cells.into_iter().chain(self.starts.cells()).chain(self.delays.cells())
     }
 
     /// Refusals 5 and 6 cannot come from a session: the store of 2,000 words
@@ -163,7 +168,6 @@ impl Coverage {
             self.overwritten,
             self.chained,
             self.expired,
-            self.started_again,
             self.stopped_in_time,
         ]
     }
@@ -176,11 +180,11 @@ const SEEN: &[&str] = &[
     "overwritten",
     "interface to interface",
     "delay expired",
-    "START while due",
     "STOP while due",
 ];
 
-struct Cell {
+/// A number of a table of what was reached.
+pub(crate) struct Cell {
     row: &'static str,
     label: String,
     count: u64,
@@ -188,13 +192,13 @@ struct Cell {
 }
 
 impl Cell {
-    fn new(row: &'static str, label: &str, count: u64) -> Cell {
+    pub(crate) fn new(row: &'static str, label: &str, count: u64) -> Cell {
         Cell { row, label: label.to_string(), count, reachable: true }
     }
 }
 
 /// What can be reached and was not.
-fn missed(cells: impl Iterator<Item = Cell>) -> Vec<String> {
+pub(crate) fn missed(cells: impl Iterator<Item = Cell>) -> Vec<String> {
     let absent = cells.filter(|cell| cell.reachable && cell.count == 0);
     absent.map(|cell| format!("{} {}", cell.row, cell.label)).collect()
 }
@@ -207,7 +211,7 @@ impl Display for Coverage {
 }
 
 /// Each row on a line of its own.
-fn write_cells(f: &mut Formatter<'_>, cells: impl Iterator<Item = Cell>) -> fmt::Result {
+pub(crate) fn write_cells(f: &mut Formatter<'_>, cells: impl Iterator<Item = Cell>) -> fmt::Result {
     let mut row = "";
     for cell in cells {
         if cell.row != row {
@@ -445,6 +449,7 @@ pub struct CallCoverage {
     pub traces: TraceCoverage,
     pub results: ResultCoverage,
     pub stores: StoreCoverage,
+    pub starts: StartCoverage,
 }
 
 impl Watch for CallCoverage {
@@ -452,17 +457,19 @@ impl Watch for CallCoverage {
         self.traces.see(sight);
         self.results.see(sight);
         self.stores.see(sight);
+        self.starts.see(sight);
     }
 }
 
 impl CallCoverage {
     pub fn missed(&self) -> Vec<String> {
-        [self.traces.missed(), self.results.missed(), self.stores.missed()].concat()
+        let (traces, results) = (self.traces.missed(), self.results.missed());
+        [traces, results, self.stores.missed(), self.starts.missed()].concat()
     }
 }
 
 impl Display for CallCoverage {
     fn fmt(&self, f: &mut Formatter<'_>) -> fmt::Result {
-        write!(f, "{}\n{}\n{}", self.traces, self.results, self.stores)
+        write!(f, "{}\n{}\n{}\n{}", self.traces, self.results, self.stores, self.starts)
     }
 }

@@ -14,6 +14,7 @@ pub mod arithmetic;
 pub mod calls;
 pub mod coverage;
 pub mod debugger;
+pub mod delays;
 pub mod gen;
 pub mod host;
 pub mod lines;

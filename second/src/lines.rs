@@ -131,6 +131,7 @@ impl<W: Watch> Program<'_, W> {
         self.print(answer, &table);
         // "A refused load stops the program."
         let model = checked.model().filter(|_| answer.refusal == 0).ok_or(Stopped)?;
+        self.watch.see(Sight::Loaded);
         let mut lines = call_lines.iter();
         while let Some(line) = lines.next() {
             match call_of(line, &mut lines) {

@@ -5,7 +5,7 @@ use crate::arithmetic::{self, Outcome};
 use crate::model::{ElementKind, Guard, Model, Step, Taking, Transition};
 use crate::store::{Current, Mode, State, Waiting};
 use crate::table::operation;
-use crate::watch::{Sight, Watch};
+use crate::watch::{Cleared, Sight, Watch};
 use std::cmp::Reverse;
 
 /// The six moves of the document, in its order.
@@ -143,6 +143,8 @@ impl<W: Watch> Machine<'_, W> {
         let input = &model.event_inputs[event];
         let element = input.element;
         self.watch.see(Sight::Element(model.elements[element].kind));
+        let renews =
+            input.associated.iter().any(|&v| self.state.values[v] != self.state.buffers[v]);
         // "It stops waiting. Associated inputs get value from buffer."
         self.state.waiting[event] = None;
         for &variable in &input.associated {
@@ -154,7 +156,7 @@ impl<W: Watch> Machine<'_, W> {
                 self.state.mode = Mode::Charts { current, live: true };
             }
             Taking::Carry { partners, event } => self.carry(partners, *event, waiting.birth),
-            Taking::Start { dt } => self.start(element, *dt),
+            Taking::Start { dt } => self.start(element, *dt, renews),
             Taking::Stop => self.stop(element),
             Taking::Record => self.record(event, waiting, room),
         }
@@ -176,22 +178,43 @@ impl<W: Watch> Machine<'_, W> {
     }
 
     /// "START sets due to now + DT (a negative DT counts as 0)". Both are at
-    /// most 2,147,483,647, so the sum fits a word.
+    /// most 2,147,483,647, so the sum fits a word. But only the first one does:
+    /// "The standard's E_DELAY counts from the first START, and later ones before
+    /// the output have no effect." "DT is still sampled", as by any event taken.
     ///
     /// Open point: DT is the value of the variable, which a START that has no
     /// association with it does not renew.
-    fn start(&mut self, delay: usize, dt: usize) {
-        if self.state.due[delay].is_some() {
-            self.watch.see(Sight::StartedAgain);
-        }
+    ///
+    /// Open point: which START is a later one. One that is taken while the due
+    /// flag is set: STOP and the output clear it, and a delay that is due at now
+    /// has had no output until an advance fires it.
+    fn start(&mut self, delay: usize, dt: usize, renews: bool) {
+        let now = self.state.now;
         let dt = self.state.values[dt].max(0).unsigned_abs();
-        self.state.due[delay] = Some(self.state.now + dt);
+        if let Some(due) = self.state.due[delay] {
+            self.watch.see(Sight::StartIgnored { delay, now, due, instead: now + dt, renews });
+            return;
+        }
+        self.watch.see(Sight::Started { delay, now });
+        self.state.due[delay] = Some(now + dt);
     }
 
     /// "STOP clears it."
     fn stop(&mut self, delay: usize) {
         if self.state.due[delay].take().is_some() {
-            self.watch.see(Sight::StoppedInTime);
+            self.watch.see(Sight::StoppedInTime(self.cleared(delay)));
+        }
+    }
+
+    /// What a watcher is told of a delay that is due no more.
+    pub fn cleared(&self, delay: usize) -> Cleared {
+        let element = &self.model.elements[delay];
+        let output = &self.model.event_outputs[element.event_outputs[0]];
+        Cleared {
+            delay,
+            now: self.state.now,
+            start_waits: self.state.waiting[element.event_inputs[0]].is_some(),
+            leads: !output.connections.is_empty(),
         }
     }
 

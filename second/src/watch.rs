@@ -19,12 +19,17 @@ pub enum Sight {
     Overwritten,
     /// An interface fired into an input of an interface.
     Chained,
-    /// START was taken while the delay was due already.
-    StartedAgain,
+    /// The step program loaded a table: no delay is due.
+    Loaded,
+    /// START made a delay due.
+    Started { delay: usize, now: u32 },
+    /// START was taken while the delay was due: that time stays, and not the one
+    /// that DT would give. It renews DT if the value sampled is another.
+    StartIgnored { delay: usize, now: u32, due: u32, instead: u32, renews: bool },
     /// STOP was taken while the delay was due.
-    StoppedInTime,
+    StoppedInTime(Cleared),
     /// A delay fired on advance.
-    Expired,
+    Expired(Cleared),
     /// A record was written.
     Record,
     /// A run ended with this many moves and this stop number.
@@ -43,6 +48,17 @@ pub enum Sight {
     Counted { traced: bool, untrue: u32, before: u32, after: u32 },
     /// A store was not well formed because of this word alone, which must be 0.
     NotZero(usize),
+}
+
+/// A delay that is due no more.
+#[derive(Clone, Copy, PartialEq, Eq, Debug)]
+pub struct Cleared {
+    pub delay: usize,
+    pub now: u32,
+    /// Whether START waits, fired while the delay was due and not taken yet.
+    pub start_waits: bool,
+    /// Whether its output leads anywhere, so that a run tells that it fired.
+    pub leads: bool,
 }
 
 pub trait Watch {

@@ -4,6 +4,7 @@
 //! and the trace room.
 
 use second::coverage::{CallCoverage, StoreCoverage, TraceCoverage};
+use second::delays::StartCoverage;
 use second::gen::faults::{faulty_line, good_line};
 use second::gen::requests::requests;
 use second::gen::rng::Rng;
@@ -140,9 +141,10 @@ fn five_thousand_calls_reach_all_that_can_be_seen() {
     }
     assert_eq!(reached.missed(), Vec::<String>::new());
     // 11 kinds, 4 ways to be held, 6 endings and 24 faults; 5 things that become
-    // of the count of a run, traced or not, and 6 words.
+    // of the count of a run, traced or not, and 6 words; 6 STARTs.
     assert_eq!(TraceCoverage::default().missed().len(), 11 + 4 + 6 + 24);
     assert_eq!(StoreCoverage::default().missed().len(), 2 * 5 + 6);
+    assert_eq!(StartCoverage::default().missed().len(), 6);
 }
 
 // ---------------------------------------------------------------- traces

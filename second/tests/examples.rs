@@ -29,6 +29,10 @@ const DELAY: &[&str] = &[
 ];
 /// The due flag and time of the delay, element 1.
 const DUE: std::ops::Range<usize> = 20..22;
+/// Flag, birth and last update of START, event input 0.
+const START: std::ops::Range<usize> = 25..28;
+/// The value and the buffer of DT, variable 1.
+const DT: std::ops::Range<usize> = 36..38;
 
 /// The worked session up to before its run: time 10, one arrival.
 fn arrived() -> (Vec<u8>, Vec<u32>) {
@@ -48,9 +52,31 @@ fn started() -> (Vec<u8>, Vec<u32>) {
     (table, store)
 }
 
-fn start(table: &[u8], store: &mut [u32], dt: i32) {
+fn to(table: &[u8], store: &mut [u32], time: u32) {
+    assert_eq!(advance(table, store, time), Answer::default());
+}
+
+fn arrive(table: &[u8], store: &mut [u32], event: u32, values: &[i32]) {
     let birth = store[0];
-    assert_eq!(arrival(table, store, 0, birth, &[dt]), Answer::default());
+    assert_eq!(arrival(table, store, event, birth, values), Answer::default());
+}
+
+/// An advance at which the delay fires, recorded by the sink.
+fn fires_at(table: &[u8], store: &mut [u32], time: u32) {
+    to(table, store, time);
+    assert_eq!(store[DUE], [0, 0]);
+    let (answer, out) = common::run_all(table, store);
+    assert_eq!((answer.moves, answer.stop), (1, 1));
+    assert_eq!(out, record(2, 2, [time; 3], &[]));
+}
+
+fn stop(table: &[u8], store: &mut [u32]) {
+    arrive(table, store, 1, &[]);
+    assert_eq!(run(table, store, 10, &mut []).moves, 1);
+}
+
+fn start(table: &[u8], store: &mut [u32], dt: i32) {
+    arrive(table, store, 0, &[dt]);
     let answer = run(table, store, 10, &mut []);
     assert_eq!((answer.moves, answer.stop), (1, 1));
 }
@@ -115,21 +141,132 @@ fn dt_50_taken_at_100_is_due_at_150_and_151_is_refused_8() {
     let before = store.clone();
     assert_eq!(advance(&table, &mut store, 151), refused(8));
     assert_eq!(store, before);
-    assert_eq!(advance(&table, &mut store, 150), Answer::default());
-    assert_eq!(store[DUE], [0, 0]);
-    let (answer, out) = common::run_all(&table, &mut store);
-    assert_eq!((answer.moves, answer.stop), (1, 1));
-    assert_eq!(out, record(2, 2, [150, 150, 150], &[]));
+    fires_at(&table, &mut store, 150);
 }
 
 #[test]
-fn a_second_start_at_120_moves_due_to_170() {
+fn a_second_start_at_120_leaves_due_at_150() {
     let (table, mut store) = started();
-    assert_eq!(advance(&table, &mut store, 120), Answer::default());
+    to(&table, &mut store, 120);
     start(&table, &mut store, 50);
-    assert_eq!(store[DUE], [1, 170]);
-    assert_eq!(advance(&table, &mut store, 150), Answer::default());
-    assert_eq!(store[DUE], [1, 170]);
+    assert_eq!(store[DUE], [1, 150]);
+    assert_eq!(advance(&table, &mut store, 151), refused(8));
+    fires_at(&table, &mut store, 150);
+}
+
+#[test]
+fn a_start_while_due_samples_dt_and_changes_nothing_else() {
+    let (table, mut store) = started();
+    to(&table, &mut store, 120);
+    for dt in [i32::MIN, -3, 0, 1, 29, 30, 31, 50, 51, i32::MAX] {
+        arrive(&table, &mut store, 0, &[dt]);
+        let mut expected = store.clone();
+        expected[START].fill(0);
+        expected[DT].fill(dt as u32);
+        assert_eq!(run(&table, &mut store, 10, &mut []).moves, 1);
+        assert_eq!(store, expected, "DT {dt}");
+        assert_eq!(store[DUE], [1, 150]);
+    }
+    assert_eq!(advance(&table, &mut store, 151), refused(8));
+}
+
+#[test]
+fn further_starts_at_the_tick_of_the_first_change_no_due_time() {
+    let (table, mut store) = started();
+    for dt in [5, 500, 0, 50] {
+        start(&table, &mut store, dt);
+        assert_eq!(store[DUE], [1, 150]);
+    }
+    to(&table, &mut store, 105);
+    assert_eq!(advance(&table, &mut store, 151), refused(8));
+    fires_at(&table, &mut store, 150);
+}
+
+#[test]
+fn a_delay_due_at_now_is_due_until_it_is_fired() {
+    for dt in [0, -5] {
+        let table = table(DELAY);
+        let mut store = loaded(&table, 45);
+        to(&table, &mut store, 100);
+        start(&table, &mut store, dt);
+        start(&table, &mut store, 50);
+        assert_eq!(store[DUE], [1, 100]);
+        assert_eq!(advance(&table, &mut store, 101), refused(8));
+        fires_at(&table, &mut store, 100);
+        // After the output, at the same tick, it is a first START again.
+        start(&table, &mut store, 50);
+        assert_eq!(store[DUE], [1, 150]);
+    }
+}
+
+#[test]
+fn a_start_after_stop_is_a_first_start() {
+    for ticks in [0, 5] {
+        let (table, mut store) = started();
+        to(&table, &mut store, 120);
+        start(&table, &mut store, 10);
+        stop(&table, &mut store);
+        assert_eq!(store[DUE], [0, 0]);
+        to(&table, &mut store, 120 + ticks);
+        start(&table, &mut store, 40);
+        assert_eq!(store[DUE], [1, 160 + ticks]);
+        start(&table, &mut store, 10);
+        assert_eq!(store[DUE], [1, 160 + ticks]);
+    }
+}
+
+#[test]
+fn a_start_after_the_output_is_a_first_start() {
+    for ticks in [0, 5] {
+        let (table, mut store) = started();
+        start(&table, &mut store, 10);
+        fires_at(&table, &mut store, 150);
+        to(&table, &mut store, 150 + ticks);
+        start(&table, &mut store, 20);
+        assert_eq!(store[DUE], [1, 170 + ticks]);
+        start(&table, &mut store, 10);
+        assert_eq!(store[DUE], [1, 170 + ticks]);
+    }
+}
+
+#[test]
+fn the_dt_of_a_start_while_due_holds_for_the_next_first_start() {
+    // The source's third event leads to START too and carries nothing.
+    let lines = [&DELAY[..9], &["0300 0000"], &DELAY[9..16], &["0A00 0003 0000"], &DELAY[16..]];
+    let table = table(&lines.concat());
+    let mut store = loaded(&table, 45);
+    start(&table, &mut store, 50);
+    start(&table, &mut store, 7);
+    assert_eq!(store[DUE], [1, 50]);
+    assert_eq!(store[DT], [7, 7]);
+    stop(&table, &mut store);
+    arrive(&table, &mut store, 3, &[]);
+    run(&table, &mut store, 10, &mut []);
+    assert_eq!(store[DUE], [1, 7]);
+}
+
+#[test]
+fn a_start_is_judged_when_it_is_taken() {
+    // It waits when the output comes.
+    let (table, mut store) = started();
+    to(&table, &mut store, 120);
+    arrive(&table, &mut store, 0, &[9]);
+    to(&table, &mut store, 150);
+    run(&table, &mut store, 1, &mut []);
+    assert_eq!(store[DUE], [1, 159]);
+    // It waits when STOP, which came before, is taken.
+    let (table, mut store) = started();
+    arrive(&table, &mut store, 1, &[]);
+    to(&table, &mut store, 120);
+    arrive(&table, &mut store, 0, &[9]);
+    run(&table, &mut store, 10, &mut []);
+    assert_eq!(store[DUE], [1, 129]);
+    // STOP, which came at the same tick, has the lower priority.
+    let (table, mut store) = started();
+    arrive(&table, &mut store, 1, &[]);
+    arrive(&table, &mut store, 0, &[9]);
+    run(&table, &mut store, 10, &mut []);
+    assert_eq!(store[DUE], [0, 0]);
 }
 
 #[test]

@@ -23,13 +23,27 @@ fn enough_sessions_reach_every_number() {
 fn an_empty_coverage_misses_every_number_that_can_be_reached() {
     let missed = Coverage::default().missed();
     // 10 refusals, 3 stops, 5 kinds, 9 operations, 5 guards, 12 + 11 + 5 kinds
-    // of refused frames and 7 sights more.
-    assert_eq!(missed.len(), 10 + 3 + 5 + 9 + 5 + 12 + 11 + 5 + 7);
+    // of refused frames, 6 sights more, 6 STARTs and 3 + 7 + 7 + 2 of the
+    // histories of delays.
+    assert_eq!(missed.len(), 10 + 3 + 5 + 9 + 5 + 12 + 11 + 5 + 6 + 6 + 3 + 7 + 7 + 2);
     assert!(!missed.contains(&"refusal 5".to_string()));
     // Clipped to either end, true at either end, divided by zero; five of them
     // seldom.
     assert_eq!(ResultCoverage::default().missed().len(), 3 + 5 + 7 + 9 + 2);
     assert_eq!(ResultCoverage::default().missed_by_sessions().len(), 26 - 5);
+}
+
+/// As many sessions as a comparison has at least, of several seeds.
+#[test]
+fn few_sessions_try_delays_in_every_way() {
+    for seed in 1..=8 {
+        let mut reached = Coverage::default();
+        for number in 0..400 {
+            step_program(&session(seed, number), &mut reached);
+        }
+        assert_eq!(reached.starts.missed(), Vec::<String>::new(), "seed {seed}");
+        assert_eq!(reached.delays.missed(), Vec::<String>::new(), "seed {seed}");
+    }
 }
 
 #[test]
@@ -46,7 +60,7 @@ fn the_first_sessions_have_a_known_sum() {
     let sum = bytes.fold(0xCBF2_9CE4_8422_2325_u64, |sum, byte| {
         (sum ^ u64::from(byte)).wrapping_mul(0x0100_0000_01B3)
     });
-    assert_eq!(format!("{sum:016X}"), "30394D7F02C17324");
+    assert_eq!(format!("{sum:016X}"), "2901899A5A2A494E");
 }
 
 #[test]

@@ -228,6 +228,38 @@ fn a_delay_ends_at_once_and_its_due_time_is_not_traced() {
 }
 
 #[test]
+fn a_start_while_due_is_traced_with_the_dt_that_it_samples() {
+    let table = table(&[
+        "0103",
+        "0102 0001",
+        "0200 0001",
+        "0201 0001",
+        "0300",
+        "0300 0001",
+        "0401",
+        "0400 0001",
+        "0500 0000 0001",
+        "0501 0000 0000",
+        "0A00",
+        "0B00 0000 0001",
+    ]);
+    let mut store = loaded(&table, 40);
+    for dt in [50, 7, 9] {
+        arrival(&table, &mut store, 0, 0, &[dt]);
+        let sampled = format!("8402 0001 0001 0000 {dt:04X} 0000");
+        let expected = [
+            &sampled,
+            "8404 0001 0000 0000 0001 0000",
+            "8405 0001 0000 0000 0001 0000",
+            "8406 0001 0000 0000 0001 0000",
+        ];
+        assert_eq!(moves_traced(&table, &mut store), [text(&expected)]);
+    }
+    // The flag and the time of element 1.
+    assert_eq!(store[20..22], [1, 50]);
+}
+
+#[test]
 fn an_internal_value_has_kind_1() {
     let table = table(FULL);
     let mut store = loaded(&table, 70);

@@ -1,4 +1,5 @@
--- Document 01's "Examples to prove", and those of the count of untrue steps: one table of definition cases. The one claim over it is in Claim.
+-- Document 01's "Examples to prove", and document 02's of a second START and of the count of untrue steps: one table of definition cases. The one claim over it
+-- is in Claim.
 use mathlib.Core.List.{List, [], _∷_, _++_}
 use Prim.Native.Nat.{ℕ, _+_, _*_}
 use lib.IntN.{ℤ, pos, negℤ}
@@ -97,12 +98,18 @@ ready = load ∷ advance 10 ∷ arrival 0 7 (21 ∷ []) ∷ []
 abbrev clipping : List Call
 clipping = load ∷ advance 10 ∷ arrival 0 7 (21 ∷ []) ∷ arrival 0 8 (1073741824 ∷ []) ∷ []
 
--- START taken at 100; and again at 120
+-- START taken at 100; and again at 120; and at 150, after the output; and at 160, after a STOP
 abbrev started : List Call
 started = load ∷ advance 100 ∷ arrival 0 100 [] ∷ run 100 ∷ []
 
 abbrev again : List Call
-again = load ∷ advance 100 ∷ arrival 0 100 [] ∷ run 100 ∷ advance 120 ∷ arrival 0 120 [] ∷ run 100 ∷ []
+again = started ++ (advance 120 ∷ arrival 0 120 [] ∷ run 100 ∷ [])
+
+abbrev anew : List Call
+anew = again ++ (advance 150 ∷ arrival 0 150 [] ∷ run 100 ∷ [])
+
+abbrev restarted : List Call
+restarted = anew ++ (advance 160 ∷ arrival 1 160 [] ∷ run 100 ∷ arrival 0 160 [] ∷ run 100 ∷ [])
 
 abbrev accepts : List ℕ
 accepts = 0 ∷ 0 ∷ 0 ∷ 0 ∷ 0 ∷ 0 ∷ []
@@ -142,8 +149,11 @@ cases =
     gives (due delayed 40 4096 started) (1 ∷ 150 ∷ []) ∷
     gives (answer delayed 40 4096 started (advance 150)) accepts ∷
     gives (answer delayed 40 4096 started (advance 151)) (refuses 8 0) ∷
-    -- "a second START at 120 moves due to 170"
-    gives (due delayed 40 4096 again) (1 ∷ 170 ∷ []) ∷
+    -- "with DT 50, START at 100 and again at 120, due stays 150"; after the output, and after a STOP, a START counts
+    gives (due delayed 40 4096 again) (1 ∷ 150 ∷ []) ∷
+    gives (answer delayed 40 4096 again (advance 151)) (refuses 8 0) ∷
+    gives (due delayed 40 4096 anew) (1 ∷ 200 ∷ []) ∷
+    gives (due delayed 40 4096 restarted) (1 ∷ 210 ∷ []) ∷
     -- "the two results 2147483647 above": negating the lowest number, and dividing it by -1; neither is the true one
     gives (result 3 lowest (pos 0)) (2147483647 ∷ 0 ∷ []) ∷
     gives (result 5 lowest (minus 1)) (2147483647 ∷ 0 ∷ []) ∷

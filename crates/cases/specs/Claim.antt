@@ -26,7 +26,7 @@ use Rattle.rules_moves.specs.Partner.{partnerOutput, partnerInput, partnerVaria
 use Rattle.rules_moves.specs.Carry.{voiceOf, speaks, carriedBy, carries}
 use Rattle.rules_moves.specs.Fire.{mark, connect, copyIf, fire}
 use Rattle.rules_moves.specs.Least.{beats, better, look, least as «leastOf»}
-use Rattle.rules_moves.specs.Take.{sample, passTo, pass, fireFound, ticksIn, dtOf, isStart, startStop, wake, sampled, settle, settled, firedBy, taken}
+use Rattle.rules_moves.specs.Take.{sample, passTo, pass, fireFound, ticksIn, dtOf, isStart, started, startStop, wake, sampled, settle, settled, firedBy, taken}
 use Rattle.rules_moves.specs.Record.{head, valueOf, values, recordOf, recordSize, putOut}
 use Rattle.rules_moves.specs.Guard.{guardOf, guardAt, holds}
 use Rattle.rules_moves.specs.Chart.{heard, guardHolds, enabled, transitionOf, change, goIdle}
@@ -43,5 +43,5 @@ use Rattle.cases.specs.Cases.{framesIn}
 
 -- every definition on the way, named once
 unfoldable pub everything : Unit {0}
-unfolding framesIn worked stored answered printed choose allTo anyTo countIf heldTo upTo firstFrom halfAt wordAt halfBytes wordBytes clip quotient least greatest operation trueValue outcome kindAt flagAt fieldAt seekTo orderAt ownedBy sortIs usedOf clearAt stepsOk bodyOk formOk initialState ofElement joins associates ofBasic maybeOwned usesOwn transits resultOf stepsOf acts stepsTo connectsEvents variableWith connectsData refersAs refersOk alike shares fresh sameEvent eightAtMost classAt partAt parts sourceShape sinkShape interfaceShape delayShape shapeAs shapeOk rulesOk lengthOk faultAt scanTo judge inputs outputs variables associations states transitions actions steps connections links need elementAt inputAt variableAt nowOf putNow runningElement currentEvent putOwner runningOf putRunning overwritten putOverwritten untrue putUntrue spareAt spareWord chartState putChartState dueFlag dueTime putDue waiting birthOf lastUpdate putInput value putValue buffer putBuffer belongs isNth partnerOutput partnerInput partnerVariable voiceOf speaks carriedBy carries counted mark connect copyIf fire beats better look «leastOf» sample passTo pass fireFound ticksIn dtOf isStart startStop wake sampled settle settled firedBy taken head valueOf values recordOf recordSize putOut heard guardOf guardAt holds guardHolds enabled transitionOf actionOf actionNumber change goIdle stepOutcome resultPut untrueStep countUntrue oneStep stepMove eventOf endMove eventNext chartNext actNext nextBy nextOf moveBy move untrueBy untrueMove writtenBy written sizeBy spareOk restOk ownerOk stepOk modeOk runningOk chartOk dueOk elementOk inputOk variableOk partsOk wellFormed initial startValue start loaded after bytes untrueIn another roomFor continues made stopAfter dueAt expired expire advanced wrongTime dueBefore beyondDue give arrived ofSource valueCount loadRefusal storeRefusal timeRefusal advanceRefusal eventRefusal arrivalRefusal
+unfolding framesIn worked stored answered printed choose allTo anyTo countIf heldTo upTo firstFrom halfAt wordAt halfBytes wordBytes clip quotient least greatest operation trueValue outcome kindAt flagAt fieldAt seekTo orderAt ownedBy sortIs usedOf clearAt stepsOk bodyOk formOk initialState ofElement joins associates ofBasic maybeOwned usesOwn transits resultOf stepsOf acts stepsTo connectsEvents variableWith connectsData refersAs refersOk alike shares fresh sameEvent eightAtMost classAt partAt parts sourceShape sinkShape interfaceShape delayShape shapeAs shapeOk rulesOk lengthOk faultAt scanTo judge inputs outputs variables associations states transitions actions steps connections links need elementAt inputAt variableAt nowOf putNow runningElement currentEvent putOwner runningOf putRunning overwritten putOverwritten untrue putUntrue spareAt spareWord chartState putChartState dueFlag dueTime putDue waiting birthOf lastUpdate putInput value putValue buffer putBuffer belongs isNth partnerOutput partnerInput partnerVariable voiceOf speaks carriedBy carries counted mark connect copyIf fire beats better look «leastOf» sample passTo pass fireFound ticksIn dtOf isStart started startStop wake sampled settle settled firedBy taken head valueOf values recordOf recordSize putOut heard guardOf guardAt holds guardHolds enabled transitionOf actionOf actionNumber change goIdle stepOutcome resultPut untrueStep countUntrue oneStep stepMove eventOf endMove eventNext chartNext actNext nextBy nextOf moveBy move untrueBy untrueMove writtenBy written sizeBy spareOk restOk ownerOk stepOk modeOk runningOk chartOk dueOk elementOk inputOk variableOk partsOk wellFormed initial startValue start loaded after bytes untrueIn another roomFor continues made stopAfter dueAt expired expire advanced wrongTime dueBefore beyondDue give arrived ofSource valueCount loadRefusal storeRefusal timeRefusal advanceRefusal eventRefusal arrivalRefusal
 everything = tt

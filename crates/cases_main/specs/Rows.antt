@@ -24,7 +24,7 @@ frames = map asFrame (framesIn repeated ++ framesIn delayed)
 abbrev pub asCall : «CallOf» → Call
 asCall load = (1, 0, 0)
 asCall (advance t) = (2, t, 0)
-asCall (arrival o birth []) = (3, birth, 0)
+asCall (arrival o birth []) = (3, birth, o)
 asCall (arrival o birth (v ∷ vs)) = (4, birth, v)
 asCall (run b) = (5, b, 0)
 
@@ -39,7 +39,17 @@ calls =
     advance 10 ∷
     arrival 0 7 (21 ∷ []) ∷
     arrival 0 8 (1073741824 ∷ []) ∷
-    load ∷ advance 100 ∷ arrival 0 100 [] ∷ run 100 ∷ advance 120 ∷ arrival 0 120 [] ∷ run 100 ∷ [])
+    load ∷
+    advance 100 ∷
+    arrival 0 100 [] ∷
+    run 100 ∷
+    advance 120 ∷
+    arrival 0 120 [] ∷
+    run 100 ∷
+    advance 150 ∷
+    arrival 0 150 [] ∷
+    run 100 ∷
+    advance 160 ∷ arrival 1 160 [] ∷ run 100 ∷ arrival 0 160 [] ∷ run 100 ∷ [])
 
 -- ---- rows
 abbrev asTable : Table → ℕ
@@ -75,4 +85,4 @@ noRow = (0, 0, 0, 0, 0, 0, 0, 0, 0, 0, 0, 0, 0, 0, 0)
 pub record Fits (r : Row) : Type 0 where
   pub words : r .2 ≤ 40
   pub room : r .3 ≤ 4096
-  pub last : r .5 ≤ 11
+  pub last : r .5 ≤ 19

@@ -79,7 +79,7 @@ fn make(t: &[u8], store: &mut [u32], out: &mut [u8], call: Call, before: Answer)
         0 => before,
         1 => load(t, store),
         2 => advance(t, store, call.1),
-        3 => arrival(t, store, 0, call.1, &value[..0]),
+        3 => arrival(t, store, call.2 as usize, call.1, &value[..0]),
         4 => arrival(t, store, 0, call.1, &value),
         5 => run(t, store, call.1, out),
         _ => run_from(t, store, out, call),
@@ -95,7 +95,7 @@ fn make_all(
     to: usize,
     own: Call,
 ) -> Answer
-    requires { ⌜ to ≤ 11 ⌝ }
+    requires { ⌜ to ≤ 19 ⌝ }
 {
     let mut i = from;
     let mut answer = Answer::Done;

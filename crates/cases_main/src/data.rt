@@ -50,12 +50,12 @@ const FRAMES: [Frame; 39] = [
     Frame(10, 0, 2, 2, 0, 0, 0),
 ];
 
-// What is called (0 nothing, 1 load, 2 advance, 3 an arrival of event 0 with no value, 4 one with a value, 5 run, 6 run where word 11 holds the value), its
-// time, birth or budget, and the value.
+// What is called (0 nothing, 1 load, 2 advance, 3 an arrival with no value, 4 one of event 0 with a value, 5 run, 6 run where word 11 holds the value), its
+// time, birth or budget, and the value, or the event that arrives with none.
 pub struct Call(pub usize, pub u32, pub u32);
 
-// The calls before a case's own: four on the worked table, seven on the delay's.
-const CALLS: [Call; 11] = [
+// The calls before a case's own: four on the worked table, the others on the delay's.
+const CALLS: [Call; 19] = [
     Call(1, 0, 0),
     Call(2, 10, 0),
     Call(4, 7, 21),
@@ -66,6 +66,14 @@ const CALLS: [Call; 11] = [
     Call(5, 100, 0),
     Call(2, 120, 0),
     Call(3, 120, 0),
+    Call(5, 100, 0),
+    Call(2, 150, 0),
+    Call(3, 150, 0),
+    Call(5, 100, 0),
+    Call(2, 160, 0),
+    Call(3, 160, 1),
+    Call(5, 100, 0),
+    Call(3, 160, 0),
     Call(5, 100, 0),
 ];
 
@@ -94,7 +102,7 @@ pub struct Row(
     pub u64,
 );
 
-const ROWS: [Row; 27] = [
+const ROWS: [Row; 30] = [
     Row(0, 0, 40, 4096, 0, 0, 1, 0, 0, 0, 0, 0, 0, 0, 0),
     Row(0, 0, 40, 4096, 0, 1, 2, 10, 0, 0, 0, 0, 0, 0, 0),
     Row(0, 0, 40, 4096, 0, 2, 4, 7, 21, 0, 0, 0, 0, 0, 0),
@@ -127,7 +135,10 @@ const ROWS: [Row; 27] = [
     Row(2, 2, 40, 4096, 4, 8, 0, 0, 0, 1, 150, 0, 0, 0, 0),
     Row(0, 2, 40, 4096, 4, 8, 2, 150, 0, 0, 0, 0, 0, 0, 0),
     Row(0, 2, 40, 4096, 4, 8, 2, 151, 0, 8, 0, 0, 0, 0, 0),
-    Row(2, 2, 40, 4096, 4, 11, 0, 0, 0, 1, 170, 0, 0, 0, 0),
+    Row(2, 2, 40, 4096, 4, 11, 0, 0, 0, 1, 150, 0, 0, 0, 0),
+    Row(0, 2, 40, 4096, 4, 11, 2, 151, 0, 8, 0, 0, 0, 0, 0),
+    Row(2, 2, 40, 4096, 4, 14, 0, 0, 0, 1, 200, 0, 0, 0, 0),
+    Row(2, 2, 40, 4096, 4, 19, 0, 0, 0, 1, 210, 0, 0, 0, 0),
     Row(
         4,
         0,
@@ -253,14 +264,14 @@ const ROWS: [Row; 27] = [
 ];
 
 pub fn row_at(i: usize) -> Row
-    requires { ⌜ i < 27 ⌝ }
+    requires { ⌜ i < 30 ⌝ }
     ensures { λ r. ⌜ r ≡ getD rows i noRow ⌝ }
 {
     ROWS[i]
 }
 
 pub fn call_at(i: usize) -> Call
-    requires { ⌜ i < 11 ⌝ }
+    requires { ⌜ i < 19 ⌝ }
     ensures { λ r. ⌜ r ≡ getD calls i noCall ⌝ }
 {
     CALLS[i]

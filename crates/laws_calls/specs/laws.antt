@@ -3,4 +3,5 @@ pub mod Kept
 pub mod Lawfully
 pub mod Refusals
 pub mod Steps
+pub mod Timers
 pub mod Untrue

@@ -6,4 +6,5 @@ pub mod Loaded
 pub mod Moves
 pub mod Records
 pub mod Taken
+pub mod Timers
 pub mod Untrue

@@ -22,7 +22,7 @@ use Rattle.rules_tables.specs.declared.Shape.{Shape}
 use Rattle.rules_tables.specs.Good.{Good}
 use Rattle.rules_store.specs.laws.Word.{value-sampled}
 use Rattle.rules_tables.specs.Ids.{firstInput, firstVariable, firstAssociation, inputs, variables, associations, associationFrame}
-use Rattle.rules_store.specs.Word.{value, putValue, buffer, putDue, birthOf, putInput}
+use Rattle.rules_store.specs.Word.{value, putValue, buffer, dueFlag, putDue, birthOf, putInput}
 use Rattle.table_parts.specs.declared.Found.{Found}
 use Rattle.table_parts.specs.declared.Found.the-variants.{One, Missing}
 use Rattle.rules_tables.specs.Owned.{any, belongs, rank, nth, isNth}
@@ -34,7 +34,7 @@ use Rattle.rules_moves.specs.Carry.{voice, speaks, voiceOf}
 use Rattle.moves_fire.specs.laws.Carrying.{speaks-belongs}
 use Rattle.rules_moves.specs.Fire.{fire}
 use Rattle.moves_take.specs.laws.Together.{passed-together}
-use Rattle.rules_moves.specs.Take.{sample, samples, sampled, passTo, pass, passes, fireFound, ticksIn, dtOf, isStart, startStop, wake, settle, settled, firedBy, taken}
+use Rattle.rules_moves.specs.Take.{sample, samples, sampled, passTo, pass, passes, fireFound, ticksIn, dtOf, isStart, started, startStop, wake, settle, settled, firedBy, taken}
 use Rattle.rules_moves.specs.Record.{head, valueOf, values, recordOf, recordSize, putOut}
 use Rattle.moves_take.specs.Received.{Sized, Event, Received}
 use Rattle.rules_moves.specs.laws.Record.{sink-writes, others-write-none}
@@ -116,10 +116,20 @@ module _ (T : List ℕ) (S : Shape) (el : ℕ) (s : List ℕ) {r : Found} where
   unfolding dtOf ticksIn
   dt-one v x d p m a u = rw (found-one (nth T (firstVariable S) (variables S) any el 0) _ v p m, ← a) u
 
+-- ---- START finds the delay not due, or due
+module _ (T : List ℕ) (S : Shape) (el time : ℕ) (s s′ : List ℕ) {w : ℕ} (flag : w ≡ dueFlag s el) where
+  pub start-first : {d : ℕ} → w ≡ 0 → d ≡ dtOf T S el s → s′ ≡ putDue el 1 (time + d) s → s′ ≡ started T S el time s
+  unfolding started
+  start-first z a u = rw (choose-true _ _ _ (eq-eqb _ _ (sym flag ∙ z)), ← a) u
+
+  pub start-later : (w ≡ 0 → ⊥) → s′ ≡ s → s′ ≡ started T S el time s
+  unfolding started
+  start-later n u = rw (choose-false _ _ _ (ne-eqb _ _ (λ h. n (flag ∙ h)))) u
+
 module _ (T : List ℕ) (S : Shape) (el i time : ℕ) (s s′ : List ℕ) where
-  pub delay-start : {k d : ℕ} → k ≡ rank T (firstInput S) any el i → k ≡ 0 → d ≡ dtOf T S el s → s′ ≡ putDue el 1 (time + d) s → s′ ≡ startStop T S el i time s
+  pub delay-start : {k : ℕ} → k ≡ rank T (firstInput S) any el i → k ≡ 0 → s′ ≡ started T S el time s → s′ ≡ startStop T S el i time s
   unfolding startStop isStart
-  delay-start p q a u = rw (choose-true _ _ _ (eq-eqb _ _ (sym p ∙ q)), ← a) u
+  delay-start p q u = rw (choose-true _ _ _ (eq-eqb _ _ (sym p ∙ q))) u
 
   pub delay-stop : {k : ℕ} → k ≡ rank T (firstInput S) any el i → (k ≡ 0 → ⊥) → s′ ≡ putDue el 0 0 s → s′ ≡ startStop T S el i time s
   unfolding startStop isStart

@@ -14,7 +14,7 @@ ghost use Rattle.rules_store.specs.Word.{value, putValue, buffer};
 ghost use Rattle.rules_moves.specs.Partner.{inputOwner, partnerOutput, partnerVariable};
 ghost use Rattle.rules_moves.specs.Carry.{voice, speaks};
 ghost use Rattle.table_index.specs.Index.{Indexed};
-ghost use Rattle.rules_moves.specs.Take.{sample as «sampleAt», samples, passTo, pass as «passAt», passes, fireFound, dtOf, startStop, wake as «wakeOf»};
+ghost use Rattle.rules_moves.specs.Take.{sample as «sampleAt», samples, passTo, pass as «passAt», passes, fireFound, dtOf, started, startStop, wake as «wakeOf»};
 ghost use Rattle.rules_moves.specs.Record.{putOut};
 ghost use Rattle.moves_take.specs.Received.{Event, Received};
 
@@ -32,6 +32,7 @@ use store_words::shape::association_frame;
 use store_words::shape::associations;
 use store_words::shape::variables as variables_of;
 use store_words::word::buffer_of;
+use store_words::word::due_flag;
 use store_words::word::put_due;
 use store_words::word::put_input_in;
 use store_words::word::put_owner;
@@ -145,14 +146,24 @@ fn dt_of(t: &[u8], store: &[u32], shape: Shape, el: usize) -> u32
     ticks(value_of(store, shape, v))
 }
 
-// Delay: START, the first event input, sets due to now + DT, STOP clears it.
+// A START sets due to now + DT. One that finds the delay due comes before the output of the first, and leaves it.
+fn start(t: &[u8], store: &mut [u32], shape: Shape, el: usize, time: u32)
+    requires { ⌜ Good (now t) shape × (el < 65536) × (time < 2147483648) ⌝ }
+    ensures { λ _. ⌜ now (store .exit) ≡ started (now (t .entry)) shape el time (now (store .entry)) ⌝ }
+{
+    if due_flag(store, el) == 0 {
+        let dt = dt_of(t, store, shape, el);
+        put_due(store, el, 1, time + dt);
+    }
+}
+
+// Delay: START, the first event input, or STOP, which clears it.
 fn start_stop(t: &[u8], store: &mut [u32], shape: Shape, el: usize, i: usize, time: u32)
     requires { ⌜ Good (now t) shape × (i < inputs shape) × (el < 65536) × (time < 2147483648) ⌝ }
     ensures { λ _. ⌜ now (store .exit) ≡ startStop (now (t .entry)) shape el i time (now (store .entry)) ⌝ }
 {
     if rank(t, shape.elements_end, ANY, el, i) == 0 {
-        let dt = dt_of(t, store, shape, el);
-        put_due(store, el, 1, time + dt);
+        start(t, store, shape, el, time);
         return;
     }
     put_due(store, el, 0, 0);

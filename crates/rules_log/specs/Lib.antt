@@ -1,4 +1,5 @@
 pub mod Log
 pub mod Origin
 pub mod Sequence
+pub mod Timer
 pub mod laws

@@ -1,4 +1,5 @@
 pub mod Carry
+pub mod Delays
 pub mod Examples
 pub mod Firing
 pub mod Guard

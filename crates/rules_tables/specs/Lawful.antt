@@ -2,9 +2,12 @@
 use mathlib.Core.Path.{_≡_}
 use mathlib.Core.List.{List}
 use Prim.Native.Nat.{ℕ, _<_}
+use Rattle.rules_walks.specs.First.{missing}
+use Rattle.rules_tables.specs.Kind.{none, basic, delay}
 use Rattle.rules_tables.specs.Frame.{flagAt, fieldAt}
 use Rattle.rules_tables.specs.declared.Shape.{Shape}
-use Rattle.rules_tables.specs.Ids.{elements, associations, states, transitions, steps, links, variableFrame, associationFrame, stateFrame, transitionFrame, stepFrame, linkFrame}
+use Rattle.rules_tables.specs.Ids.{elements, firstOutput, outputs, associations, states, transitions, actions, steps, links, outputFrame, variableFrame, associationFrame, stateFrame, transitionFrame, actionFrame, stepFrame, linkFrame}
+use Rattle.rules_tables.specs.Owned.{any, nth}
 use Rattle.rules_tables.specs.Good.{Good}
 
 -- the variables that data connection j runs between
@@ -31,3 +34,7 @@ pub record Lawful (T : List ℕ) (S : Shape) : Type 0 where
   -- "A basic element's initial state is its own." "Both states .. of a transition are of one element."
   pub initial-own : (el : ℕ) → el < elements S → flagAt T el ≡ 0 → StateOf T S (fieldAt T el 1) el
   pub to-own : (j : ℕ) → j < transitions S → StateOf T S (fieldAt T (transitionFrame S j) 1) (fieldAt T (stateFrame S (fieldAt T (transitionFrame S j) 0)) 0)
+  -- "States belong to basic elements", and an action's "output event is too": so it is a basic element's
+  pub action-basic : (j : ℕ) → j < actions S → (fieldAt T (actionFrame S j) 3 ≡ none → ⊥) → flagAt T (fieldAt T (outputFrame S (fieldAt T (actionFrame S j) 3)) 0) ≡ basic
+  -- "A delay has .. one event output"
+  pub delay-output : (el : ℕ) → el < elements S → flagAt T el ≡ delay → nth T (firstOutput S) (outputs S) any el 0 ≡ missing → ⊥

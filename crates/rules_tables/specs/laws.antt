@@ -5,6 +5,7 @@ pub mod Formed
 pub mod Good
 pub mod Judge
 pub mod Lawful
+pub mod Outputs
 pub mod Owned
 pub mod Places
 pub mod Referring

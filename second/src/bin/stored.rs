@@ -2,11 +2,12 @@
 //! standard input of the program `stored`, and what they reach on standard
 //! error.
 //!
-//! Of generated sessions, from the shortest to the longest, each that reaches
-//! a number that none before it reached is kept. After a session stands `=`,
-//! after its answer too. A session that begins `%` is run with a store of 38
-//! words, and at `#` the store is spoilt: its live flag becomes 2. These two
-//! bring about refusals 5 and 6, which no session can.
+//! Of generated sessions, from the shortest to the longest with its answer, each
+//! that reaches a number that none before it reached is kept, unless the others
+//! reach all that it reaches. After a session stands `=`, after its answer too. A
+//! session that begins `%` is run with a store of 38 words, and at `#` the store is
+//! spoilt: its live flag becomes 2. These two bring about refusals 5 and 6, which
+//! no session can.
 
 use second::coverage::Coverage;
 use second::gen::session;
@@ -44,8 +45,8 @@ fn main() -> ExitCode {
 fn stored() -> Vec<u8> {
     let mut text = Vec::new();
     let mut coverage = Coverage::default();
-    for input in kept() {
-        let answer = step_program(&input, &mut coverage);
+    for Session { input, answer, .. } in kept() {
+        step_program(&input, &mut coverage);
         coverage.sessions += 1;
         put(&mut text, &input, &answer);
     }
@@ -63,23 +64,55 @@ fn put(text: &mut Vec<u8>, input: &[u8], answer: &[u8]) {
     }
 }
 
-/// The worked session, then those that reach more.
-fn kept() -> Vec<Vec<u8>> {
-    let mut sessions: Vec<Vec<u8>> = (0..SESSIONS).map(|number| session(SEED, number)).collect();
-    sessions.retain(|input| input.len() <= MOST_BYTES && !input.iter().any(|b| MARKS.contains(b)));
-    sessions.sort_by_key(Vec::len);
-    sessions.insert(0, WORKED.as_bytes().to_vec());
-    let mut seen = BTreeSet::new();
-    sessions.retain(|input| {
+/// A session with its answer and the numbers that it reaches.
+struct Session {
+    input: Vec<u8>,
+    answer: Vec<u8>,
+    reached: BTreeSet<String>,
+}
+
+impl Session {
+    fn of(input: Vec<u8>) -> Session {
         let mut alone = Coverage::default();
-        let answer = step_program(input, &mut alone);
-        let reached = alone.reached();
-        let new = reached.iter().any(|number| !seen.contains(number));
-        let keep = new && answer.len() <= MOST_ANSWER_BYTES;
-        if keep {
-            seen.extend(reached);
-        }
-        keep
+        let answer = step_program(&input, &mut alone);
+        Session { input, answer, reached: alone.reached().into_iter().collect() }
+    }
+
+    fn bytes(&self) -> usize {
+        self.input.len() + self.answer.len()
+    }
+
+    fn may_be_kept(&self) -> bool {
+        self.input.len() <= MOST_BYTES
+            && self.answer.len() <= MOST_ANSWER_BYTES
+            && !self.input.iter().any(|byte| MARKS.contains(byte))
+    }
+}
+
+/// The worked session, then those that reach more.
+fn kept() -> Vec<Session> {
+    let sessions = (0..SESSIONS).map(|number| Session::of(session(SEED, number)));
+    let mut sessions: Vec<Session> = sessions.filter(Session::may_be_kept).collect();
+    sessions.sort_by_key(Session::bytes);
+    sessions.insert(0, Session::of(WORKED.as_bytes().to_vec()));
+    let mut seen = BTreeSet::new();
+    sessions.retain(|session| {
+        let new = !session.reached.is_subset(&seen);
+        seen.extend(session.reached.iter().cloned());
+        new
     });
+    leave_out(&mut sessions);
     sessions
+}
+
+/// Leaves out those without which as much is reached, the longest first.
+fn leave_out(sessions: &mut Vec<Session>) {
+    for place in (1..sessions.len()).rev() {
+        let mut alone = sessions[place].reached.clone();
+        let others = sessions[..place].iter().chain(&sessions[place + 1..]);
+        others.for_each(|other| alone.retain(|number| !other.reached.contains(number)));
+        if alone.is_empty() {
+            sessions.remove(place);
+        }
+    }
 }

@@ -2,6 +2,7 @@
 
 mod charts;
 mod damage;
+mod delays;
 pub mod faults;
 pub mod requests;
 pub mod rng;

@@ -1,9 +1,11 @@
 //! Calls on arbitrary tables and stores: the session's own calls, one after
 //! the other on a store that grows out of them, and beside each a call on a
 //! copy of that store, whole, spoiled or cut, or on any words, with the table or
-//! a damaged one, or a run of a block put before one of its steps. The count of
-//! untrue steps is any. Traces of the runs are read, whole, cut and damaged.
+//! a damaged one, or a run of a block put before one of its steps, or of a delay
+//! before a START. The count of untrue steps is any. Traces of the runs are read,
+//! whole, cut and damaged.
 
+use super::delays::put_before_start;
 use super::faults::{faulty_line, good_line};
 use super::rng::Rng;
 use super::session;
@@ -11,8 +13,9 @@ use super::steps::put_before_step;
 use crate::calls::Checked;
 use crate::host::{Call, Request};
 use crate::lines::{self, calls_of_lines, lines_of, part, table_of_lines, text_of, OUTPUT_BYTES};
+use crate::model::Model;
 use crate::reader::Fault;
-use crate::store::{self, need, word};
+use crate::store::{self, need, word, State};
 use crate::table::{kind, FRAME_BYTES};
 use crate::trace::Trace;
 
@@ -46,14 +49,19 @@ pub fn requests(seed: u64, round: u64, made: &mut impl FnMut(Request) -> Vec<u32
         if draw.rng.chance(70) {
             made(draw.probe(&store));
         }
-        if let Some(request) = draw.stepping(&store) {
-            made(request);
+        for (percent, put) in [(35, put_before_step as Put), (20, put_before_start)] {
+            if let Some(request) = draw.run_from(&store, percent, put) {
+                made(request);
+            }
         }
         if draw.rng.chance(20) {
             made(draw.reading());
         }
     }
 }
+
+/// Puts a machine before a move; `None` if the table has none such.
+type Put = fn(&mut Rng, &Model, &mut State) -> Option<()>;
 
 /// The store before a run, and the run's trace as text.
 struct Scene {
@@ -266,12 +274,12 @@ impl Draw {
         Request { table, store: words, call }
     }
 
-    /// Now and then, if the table has steps: a run on a store in which a block is
-    /// about to make some whose results lie at the ends of the range.
-    fn stepping(&mut self, store: &[u32]) -> Option<Request> {
-        let model = self.checked.model().filter(|_| self.rng.chance(35))?;
+    /// Now and then a run on a store in which the machine is put before a move
+    /// that runs as they come seldom make.
+    fn run_from(&mut self, store: &[u32], percent: usize, put: Put) -> Option<Request> {
+        let model = self.checked.model().filter(|_| self.rng.chance(percent))?;
         let mut state = store::read(model, store)?;
-        put_before_step(&mut self.rng, model, &mut state)?;
+        put(&mut self.rng, model, &mut state)?;
         let mut words = store.to_vec();
         store::write(model, &state, &mut words);
         self.set_count(&mut words);

@@ -10,6 +10,9 @@ use crate::model::{ElementKind, Model};
 use crate::store::{self, GREATEST_TIME};
 use crate::table::{halves, Frame};
 
+/// How often a call is the first of several that try a delay.
+const DELAY_PERCENT: usize = 6;
+
 /// Draws the frames of so many calls to a table; a table that is refused gets
 /// calls too, which must not be reached.
 pub fn draw(rng: &mut Rng, table: &[Frame], number: usize, wish: &Wish) -> Vec<Frame> {
@@ -24,16 +27,19 @@ pub fn draw(rng: &mut Rng, table: &[Frame], number: usize, wish: &Wish) -> Vec<F
     script.frames
 }
 
-struct Script<'a> {
-    rng: &'a mut Rng,
-    checked: &'a Checked,
+pub struct Script<'a> {
+    pub rng: &'a mut Rng,
+    pub checked: &'a Checked,
     wish: &'a Wish,
-    store: Vec<u32>,
+    pub store: Vec<u32>,
     frames: Vec<Frame>,
 }
 
 impl Script<'_> {
     fn draw_call(&mut self) {
+        if self.rng.chance(DELAY_PERCENT) && self.draw_delay_calls().is_some() {
+            return;
+        }
         match self.rng.below(100) {
             0..=31 => self.draw_arrivals(),
             32..=67 => {
@@ -56,16 +62,21 @@ impl Script<'_> {
         self.checked.model()
     }
 
-    fn now(&self) -> u32 {
+    pub fn now(&self) -> u32 {
         self.store[store::word::NOW]
     }
 
-    fn due_times(&self) -> Vec<u32> {
-        let state = self.model().and_then(|model| store::read(model, &self.store));
-        state.map_or(Vec::new(), |state| state.due.into_iter().flatten().collect())
+    pub fn due_times(&self) -> Vec<u32> {
+        self.dues().into_iter().flatten().collect()
     }
 
-    fn source_events(&self) -> Vec<usize> {
+    /// The due time of each element, of a delay that is due.
+    pub fn dues(&self) -> Vec<Option<u32>> {
+        let state = self.model().and_then(|model| store::read(model, &self.store));
+        state.map_or(Vec::new(), |state| state.due)
+    }
+
+    pub fn source_events(&self) -> Vec<usize> {
         let Some(model) = self.model() else {
             return vec![0, 1];
         };
@@ -76,7 +87,7 @@ impl Script<'_> {
         (0..model.event_outputs.len()).filter(of_source).collect()
     }
 
-    fn associations(&self, event: usize) -> usize {
+    pub fn associations(&self, event: usize) -> usize {
         let output = self.model().and_then(|model| model.event_outputs.get(event));
         output.map_or(0, |output| output.associated.len())
     }
@@ -108,7 +119,7 @@ impl Script<'_> {
         self.rng.pick(&[before, before, beyond, GREATEST_TIME + 1, u32::MAX, 0])
     }
 
-    fn advance(&mut self, to: u32) {
+    pub fn advance(&mut self, to: u32) {
         self.frames.push(Frame::new(call_kind::ADVANCE, 0, &halves(to)));
         self.checked.advance(&mut self.store, to, &mut ());
     }
@@ -123,7 +134,8 @@ impl Script<'_> {
         };
         for _ in 0..self.rng.pick(&[1, 1, 1, 1, 1, 1, 2, 3]) {
             let birth = self.draw_birth();
-            self.arrive(event, birth, self.associations(event));
+            let values = self.draw_values(self.associations(event));
+            self.arrive(event, birth, &values);
         }
         if self.rng.chance(50) {
             let budget = self.draw_budget();
@@ -132,7 +144,7 @@ impl Script<'_> {
     }
 
     /// A birth at now or in the past.
-    fn draw_birth(&mut self) -> u32 {
+    pub fn draw_birth(&mut self) -> u32 {
         let now = self.now();
         match self.rng.below(10) {
             0..=4 => now,
@@ -155,21 +167,25 @@ impl Script<'_> {
                 _ => values = self.rng.pick(&[0, 1, values + 1, 9, 255]).min(255),
             }
         }
-        self.arrive(event, birth, values);
+        let values = self.draw_values(values);
+        self.arrive(event, birth, &values);
     }
 
-    fn arrive(&mut self, event: usize, birth: u32, values: usize) {
-        let values: Vec<i32> = (0..values).map(|_| self.rng.value(self.wish.extreme)).collect();
+    fn draw_values(&mut self, number: usize) -> Vec<i32> {
+        (0..number).map(|_| self.rng.value(self.wish.extreme)).collect()
+    }
+
+    pub fn arrive(&mut self, event: usize, birth: u32, values: &[i32]) {
         let [high, low] = halves(birth);
         let number = u8::try_from(values.len()).expect("at most 255 values");
         let fields = [field(event), high, low];
         self.frames.push(Frame::new(call_kind::ARRIVAL, number, &fields));
-        for &value in &values {
+        for &value in values {
             let [high, low] = halves(value as u32);
             self.frames.push(Frame::new(call_kind::VALUE, 0, &[0, high, low]));
         }
         let event = u32::from(field(event));
-        self.checked.arrival(&mut self.store, event, birth, &values, &mut ());
+        self.checked.arrival(&mut self.store, event, birth, values, &mut ());
     }
 
     // ------------------------------------------------------------ run
@@ -197,7 +213,7 @@ impl Script<'_> {
         self.checked.run(store, budget, &mut [0; OUTPUT_BYTES], &mut ()).moves
     }
 
-    fn run(&mut self, budget: u32) {
+    pub fn run(&mut self, budget: u32) {
         self.frames.push(Frame::new(call_kind::RUN, 0, &halves(budget)));
         let mut store = std::mem::take(&mut self.store);
         self.moves_of(&mut store, budget);

@@ -1,5 +1,6 @@
 //! The associations and connections of a random network.
 
+use super::delays::Lead;
 use super::rng::Rng;
 use super::skeleton::{field, Skeleton};
 use super::{Flow, Wish};
@@ -12,19 +13,23 @@ pub struct Wiring {
 }
 
 /// What is associated with each event, by id.
-struct Associated {
-    inputs: Vec<Vec<usize>>,
-    outputs: Vec<Vec<usize>>,
+pub struct Associated {
+    pub inputs: Vec<Vec<usize>>,
+    pub outputs: Vec<Vec<usize>>,
 }
 
 impl Wiring {
     pub fn draw(rng: &mut Rng, skeleton: &Skeleton, wish: &Wish) -> Wiring {
-        let associated = Associated::draw(rng, skeleton);
+        let mut associated = Associated::draw(rng, skeleton);
+        let lead = Lead::draw(rng, skeleton);
+        lead.iter().for_each(|lead| lead.associate(&mut associated));
         let carried = carried(skeleton, &associated);
         let mut associations = frames(kind::ASSOCIATION, role::INPUT, &associated.inputs);
         associations.extend(frames(kind::ASSOCIATION, role::OUTPUT, &associated.outputs));
-        let connections = draw_event_connections(rng, skeleton, wish.flow);
-        let sources = draw_data_connections(rng, skeleton, &associated, &carried, &connections);
+        let mut connections = draw_event_connections(rng, skeleton, wish.flow);
+        lead.iter().for_each(|lead| lead.connect(&mut connections));
+        let mut sources = draw_data_connections(rng, skeleton, &associated, &carried, &connections);
+        lead.iter().for_each(|lead| lead.feed(&mut sources));
         let mut wiring = Wiring {
             associations,
             event_connections: frames(kind::EVENT_CONNECTION, 0, &connections),

@@ -14,9 +14,12 @@ use std::process::ExitCode;
 const CONTRACTS: &[&str] =
     &["crates/table_check/src/lib.rt", "crates/table_views/src/lib.rt", "crates/calls/src/lib.rt", "crates/xaluudhiga/src/lib.rt"];
 
-/// The laws whose statements are promises too: demand 3, and what the step program prints.
-const THEOREMS: &[(Place, &str)] =
-    &[(Place::fixed("laws_calls", "laws.Demand3"), ""), (Place::fixed("session_dialogue", "laws.Whole"), "runs-print")];
+/// The laws whose statements are promises too: demand 3, when a delay is due, and what the step program prints.
+const THEOREMS: &[(Place, &str)] = &[
+    (Place::fixed("laws_calls", "laws.Demand3"), ""),
+    (Place::fixed("laws_calls", "laws.Timers"), "delay-due"),
+    (Place::fixed("session_dialogue", "laws.Whole"), "runs-print"),
+];
 
 /// What stands between code and law in a statement and need not be believed: were it too weak the law could not be proved, were it too strong the code could not.
 const BETWEEN: &[&str] = &["Feeds", "Finishes"];

@@ -1,12 +1,13 @@
 -- Demand 3 on two sequences of calls that are exhibited: the worked session, and one with an interface, a delay and an event that is overwritten. So the laws are
 -- met by something, their premises can be met, and what they then say is computed.
-use mathlib.Core.Path.{_≡_, refl, sym}
+use mathlib.Core.Path.{_≡_, refl, sym, subst}
 use mathlib.Core.List.{List, [], _∷_}
 use Prim.Native.Nat.{ℕ}
 use native.Mathlib.Omega.{arith}
 use lib.ListN.{replicate}
 use Rattle.rules_tables.specs.Judge.{accepted, judge}
 use Rattle.rules_store.specs.Word.{overwritten, value, buffer}
+use Rattle.rules_store.specs.Own.{Due}
 use Rattle.rules_store.specs.Load.{loaded}
 use Rattle.rules_moves.specs.Connected.{runs}
 use Rattle.rules_moves.specs.Associated.{joinsVariable}
@@ -15,7 +16,9 @@ use Rattle.rules_calls.specs.Calls.{arrived}
 use Rattle.rules_log.specs.Log.{Log, empty, fireLog, moveLog, runLog, expireLog, advanceLog, arrivalLog}
 use Rattle.rules_log.specs.Origin.{born, fresh, Ordered, waits, current, origin, lastSampled, lastCopied, recordsOf}
 use Rattle.rules_log.specs.Sequence.{Since}
+use Rattle.rules_log.specs.Timer.{Timer, until, startTimer, timer, Clocked}
 use Rattle.laws_calls.specs.laws.Demand3.{order, births, running-birth, input-values, buffers}
+use Rattle.laws_calls.specs.laws.Timers.{delay-due}
 use Rattle.cases_tables.specs.laws.Cases.{worked-right}
 use Rattle.cases.specs.Claim.{everything}
 use Rattle.cases_log.specs.Session.{table, shape, before, log}
@@ -125,6 +128,15 @@ network-waits = births network twice toTwice network-twice 0 (omega arith) refl
 network-due : Since network due (runLog network outline 10 3 twice toTwice)
 unfolding log-too
 network-due = ran-since network network-verdict twice toTwice network-twice 3 (replicate 20 0) 10 3 refl refl refl
+
+-- START was taken at 10, and DT is 5: the delay runs until 15, and the store says so
+pub network-runs : timer network outline 2 (runLog network outline 10 3 twice toTwice) ≡ until 15
+unfolding log-too timer startTimer
+network-runs = refl
+
+pub network-is-due : Due 2 1 15 due
+unfolding log-too
+network-is-due = subst (λ (x : Timer). Clocked 2 x due) network-runs (delay-due network 2 (omega arith) refl due (runLog network outline 10 3 twice toTwice) network-due)
 
 pub network-fifteen : Since network fifteen toFifteen
 unfolding log-too

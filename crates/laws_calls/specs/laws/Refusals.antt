@@ -86,11 +86,11 @@ time-none S s t = by (wrongTime s t) (beyondDue S s t) refl refl
     by false true e f z = absurd (omega arith)
     by false false e f z = (e, f)
 
-pub event-none : (T : List ℕ) (S : Shape) (s : List ℕ) (o birth : ℕ) (values : List ℕ) → eventRefusal T S s o birth values ≡ 0 → birth ≤ nowOf s
+pub event-none : (T : List ℕ) (S : Shape) (s : List ℕ) (o birth : ℕ) (values : List ℕ) → eventRefusal T S s o birth values ≡ 0 → (ofSource T S o ≡ true) × (birth ≤ nowOf s)
 unfolding eventRefusal
 event-none T S s o birth values = by (ofSource T S o) (ltb (nowOf s) birth) (eqb (length values) (valueCount T S o)) refl
   where
-    by : (a b c : Bool) → ltb (nowOf s) birth ≡ b → _≡_ {A = ℕ} (pick a (pick b 10 (pick c 0 11)) 9) 0 → birth ≤ nowOf s
+    by : (a b c : Bool) → ltb (nowOf s) birth ≡ b → _≡_ {A = ℕ} (pick a (pick b 10 (pick c 0 11)) 9) 0 → (a ≡ true) × (birth ≤ nowOf s)
     by true true c e z = absurd (omega arith)
-    by true false c e z = ltb-false (nowOf s) birth e
+    by true false c e z = (refl, ltb-false (nowOf s) birth e)
     by false b c e z = absurd (omega arith)

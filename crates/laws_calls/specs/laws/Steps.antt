@@ -42,24 +42,28 @@ onward-steady : (T : List ℕ) (S : Shape) (s s′ : List ℕ) → Onward T S s 
 onward-steady T S s s′ w u =
     record { long = w .leaves .long; past = w .leaves .past; later = let n = w .leaves .now refl in omega arith; grows = w .grows; untrue-grows = u }
 
+-- a call that is refused, or done with this log and store: what holds of both holds after it
+pub either-way : (T : List ℕ) → judge T ≡ accepted → (P : Log → List ℕ → Type 0) (l : Log) (s : List ℕ) → P l s
+    → (q : ℕ) (l′ : Log) (x s′ : List ℕ) → s′ ≡ keptBy (judge T) q s x → (q ≡ 0 → P l′ x) → P (unless q l′ l) s′
+unfolding choose
+either-way T v P l s h q l′ x s′ e g = rw (e ∙ ap (λ (y : Verdict). keptBy y q s x) v) (by (eqb q 0) refl)
+  where
+    by : (b : Bool) → eqb q 0 ≡ b → P (choose b l′ l) (choose b x s)
+    by true z = g (eqb-true q 0 z)
+    by false z = h
+
 module _ (T : List ℕ) (v : judge T ≡ accepted) (B : Begun) (l : Log) (s : List ℕ) (h : Holds T (shapeOf T) B l s) where
   pub knows : Lawful T (shapeOf T)
   knows = lawful T (accepted-means T v)
 
-  -- a call that is refused, or done with this log and store
-  either-way : (q : ℕ) (l′ : Log) (x s′ : List ℕ) → s′ ≡ keptBy (judge T) q s x → (q ≡ 0 → Step T B s l′ x) → Step T B s (unless q l′ l) s′
-  unfolding choose
-  either-way q l′ x s′ e g = rw (e ∙ ap (λ (y : Verdict). keptBy y q s x) v) (by (eqb q 0) refl)
-    where
-      by : (b : Bool) → eqb q 0 ≡ b → Step T B s (choose b l′ l) (choose b x s)
-      by true z = g (eqb-true q 0 z)
-      by false z = record { holds = h; steady = steady-all (shapeOf T) s }
+  step-or-not : (q : ℕ) (l′ : Log) (x s′ : List ℕ) → s′ ≡ keptBy (judge T) q s x → (q ≡ 0 → Step T B s l′ x) → Step T B s (unless q l′ l) s′
+  step-or-not = either-way T v (Step T B s) l s (record { holds = h; steady = steady-all (shapeOf T) s })
 
   pub advance-step : (s′ : List ℕ) (t : ℕ) (r : Answer) → AdvanceCall T s t r s′ → Step T B s (logAdvance T s t l) s′
   unfolding advanceRefusal
   advance-step s′ t r c =
       let S = shapeOf T in
-      either-way (advanceRefusal T S s t) (advanceLog T S t s l) (advanced T S t s) s′ (c .store)
+      step-or-not (advanceRefusal T S s t) (advanceLog T S t s l) (advanced T S t s) s′ (c .store)
       (λ e.
       let w = time-none S s t (or-else-none (storeRefusal T S s) (timeRefusal S s t) e .1) in
       let g = advance-goes T S B knows l s h t (w .0) (w .1) in
@@ -80,9 +84,9 @@ module _ (T : List ℕ) (v : judge T ≡ accepted) (B : Begun) (l : Log) (s : Li
   unfolding arrivalRefusal
   arrival-step s′ o birth values r c =
       let S = shapeOf T in
-      either-way (arrivalRefusal T S s o birth values) (arrivalLog T S o birth values s l) (arrived T S o birth values s) s′ (c .store)
+      step-or-not (arrivalRefusal T S s o birth values) (arrivalLog T S o birth values s l) (arrived T S o birth values s) s′ (c .store)
       (λ e.
-      let b = event-none T S s o birth values (or-else-none (storeRefusal T S s) (eventRefusal T S s o birth values) e .1) in
+      let b = event-none T S s o birth values (or-else-none (storeRefusal T S s) (eventRefusal T S s o birth values) e .1) .1 in
       let g = arrival-goes T S B knows l s h o birth values b in
       record { holds = g .holds; steady = onward-steady T S s (arrived T S o birth values s) (g .onward) (let un = arrived-untrue T S knows o birth values s in omega arith) })
 
@@ -90,7 +94,7 @@ module _ (T : List ℕ) (v : judge T ≡ accepted) (B : Begun) (l : Log) (s : Li
   run-step s′ out out′ budget r c =
       let S = shapeOf T in
       let m = runMoves T s budget (length out) in
-      either-way (storeRefusal T S s) (runLog T S (nowOf s) m s l) (after T S (nowOf s) m s) s′ (run-store T s budget out c)
+      step-or-not (storeRefusal T S s) (runLog T S (nowOf s) m s l) (after T S (nowOf s) m s) s′ (run-store T s budget out c)
       (λ e.
       let g = run-goes T S B knows s l m h in
       record { holds = g .holds; steady = onward-steady T S s (after T S (nowOf s) m s) (g .onward) (after-grows T S knows s (h .formed) m) })

@@ -25,6 +25,7 @@ use Rattle.rules_store.specs.laws.Word.{buffer-putBuffer, buffer-putValue, valu
 use Rattle.rules_store.specs.Part.{Part, chart, sampled, computed, buffered, just, also, everything, Leaves}
 use Rattle.rules_store.specs.laws.Part.{leaves-all, leaves-then}
 use Rattle.rules_store.specs.laws.Writer.{leaves-chart, leaves-value, leaves-buffer}
+use Rattle.rules_store.specs.Own.{Due}
 use Rattle.rules_store.specs.laws.Own.{chart-put, chart-other, value-put, buffer-put}
 use Rattle.rules_store.specs.Blank.{Blank}
 use Rattle.rules_store.specs.laws.Blank.{zeroes-at, blank}
@@ -175,6 +176,13 @@ module _ (T : List ℕ) (S : Shape) where
           others = λ v l _. set-leaves .buffers refl v l ∙ clear .buffers v l;
         })
 
+    pub loaded-due : (el : ℕ) → el < elements S → Due el 0 0 (loaded T S s)
+    loaded-due el l =
+        let a = load-leaves .dues refl el l in
+        let b = set-leaves .dues refl el l in
+        let c = clear .dues el l in
+        record { flagged = a .flag ∙ b .flag ∙ c .0; timed = a .at ∙ b .at ∙ c .1 }
+
     pub loaded-formed : Lawful T S → Formed T S (loaded T S s)
     loaded-formed k =
         let w = load-leaves in
@@ -196,11 +204,9 @@ module _ (T : List ℕ) (S : Shape) where
                     };
                 dues =
                     λ el l.
-                    let a = w .dues refl el l in
-                    let b = u .dues refl el l in
-                    let c = z .dues el l in
-                    let fl = a .flag ∙ b .flag ∙ c .0 in
-                    record { flagged = rw fl (omega arith); rests = λ _. a .at ∙ b .at ∙ c .1; due = λ q. absurd (let y = sym fl ∙ q in omega arith) };
+                    let d = loaded-due el l in
+                    let fl = d .flagged in
+                    record { flagged = rw fl (omega arith); rests = λ _. d .timed; due = λ q. absurd (let y = sym fl ∙ q in omega arith) };
                 events =
                     λ i l.
                     let a = w .waits refl i l in

@@ -13,7 +13,7 @@ use Rattle.rules_walks.specs.laws.First.{first-means}
 use Rattle.rules_tables.specs.Frame.{fieldAt}
 use Rattle.rules_tables.specs.declared.Shape.{Shape}
 use Rattle.rules_store.specs.declared.Running.{Running}
-use Rattle.rules_tables.specs.Ids.{elements, transitions, steps, transitionFrame, actionFrame, stepFrame}
+use Rattle.rules_tables.specs.Ids.{elements, transitions, transitionFrame, actionFrame, stepFrame}
 use Rattle.rules_store.specs.Running.{rest, entered, stepped, charting}
 use Rattle.rules_store.specs.Word.{nowOf, runningElement, currentEvent, putOwner, runningOf, putRunning, chartState, putChartState}
 use Rattle.rules_store.specs.Part.{count, input, buffered, just, also, calm, everything}
@@ -21,11 +21,11 @@ use Rattle.rules_store.specs.laws.Writer.{leaves-owner, leaves-running, leaves-
 use Rattle.rules_store.specs.laws.Own.{running-put}
 use Rattle.rules_moves.specs.Chart.{heard, guardHolds, enabled, transitionOf, change, goIdle, elementOf, stateOf}
 use Rattle.rules_tables.specs.Actions.{actionOf, actionNumber}
-use Rattle.rules_tables.specs.laws.Actions.{action-below}
 use Rattle.rules_moves.specs.Act.{oneStep, stepMove, eventOf, endMove}
 use Rattle.rules_moves.specs.Means.{Stepping}
 use Rattle.rules_store.specs.WellFormed.{stepOk}
 use Rattle.rules_tables.specs.Lawful.{Lawful}
+use Rattle.rules_moves.specs.laws.Next.{step-below}
 use Rattle.rules_moves.specs.laws.Moving.{change-leaves, idle-leaves, one-step-leaves}
 use Rattle.rules_moves.specs.Take.{fireFound}
 use Rattle.rules_moves.specs.laws.Taking.{fire-found-leaves}
@@ -102,7 +102,7 @@ module _ (T : List ℕ) (S : Shape) (B : Begun) (k : Lawful T S) (s₀ : List �
       pub step-goes : (i : ℕ) → Stepping T S r s i → Goes T S B s₀ l (stepMove T S t r i s)
       unfolding stepMove stepOk
       step-goes i st =
-          let li : i < steps S = (let h = k .is-good .action-steps (st .action) (r .step) (action-below T S q (r .action) (st .action) (st .found)) (st .left) in let e = st .is in omega arith) in
+          let li = step-below T S r s (k .is-good) i st in
           let y = oneStep T S (stepFrame S i) (t - r .birth) s in
           let w = one-step-leaves T S k calm refl refl i (t - r .birth) s li in
           let u = w .running refl in

@@ -1,13 +1,15 @@
 -- One move, and any number of them, keep the laws.
-use mathlib.Core.Path.{_≡_}
+use mathlib.Core.Path.{_≡_, refl}
 use mathlib.Core.List.{List}
-use Prim.Native.Nat.{ℕ, zero, suc}
+use Prim.Native.Nat.{ℕ, zero, suc, _<_}
 use native.Mathlib.Omega.{arith}
 use Rattle.rules_tables.specs.declared.Shape.{Shape}
+use Rattle.rules_tables.specs.Ids.{elements}
 use Rattle.rules_store.specs.Word.{nowOf, runningOf}
 use Rattle.rules_moves.specs.declared.Next.{Next}
 use Rattle.rules_moves.specs.declared.Next.the-variants.{Take, Change, Idle, Step, End, Back, Nothing}
 use Rattle.rules_moves.specs.Next.{nextOf, moveBy, move}
+use Rattle.rules_moves.specs.Chart.{elementOf}
 use Rattle.rules_moves.specs.Means.{Means}
 use Rattle.rules_moves.specs.laws.Next.{next-means}
 use Rattle.rules_calls.specs.Run.{after}
@@ -45,6 +47,14 @@ module _ (T : List ℕ) (S : Shape) (B : Begun) (k : Lawful T S) (s₀ : List �
       let g = run-goes l n h in
       move-goes (runLog T S (nowOf s₀) n s₀ l) (after T S (nowOf s₀) n s₀) g (nowOf s₀) (goes-now T S B k s₀ (runLog T S (nowOf s₀) n s₀ l) (after T S (nowOf s₀) n s₀) g)
 
+-- a block that runs is of one of the elements
+pub runs-within : (T : List ℕ) (S : Shape) (s : List ℕ) → Formed T S s → (runningOf s .mode ≡ 0 → ⊥) → elementOf s < elements S
+runs-within T S s f busy = let o = f .block .busy busy .owner in let a = o .element in let b = o .within in omega arith
+
 -- each store of a run is well formed
 pub formed-after : (T : List ℕ) (S : Shape) → Lawful T S → (n : ℕ) (s : List ℕ) → Formed T S s → Formed T S (after T S (nowOf s) n s)
 formed-after T S k n s f = run-goes T S (asFound S s) k s empty n (found-holds T S s f) .holds .formed
+
+-- and has the same now
+pub now-after : (T : List ℕ) (S : Shape) → Lawful T S → (n : ℕ) (s : List ℕ) → Formed T S s → nowOf (after T S (nowOf s) n s) ≡ nowOf s
+now-after T S k n s f = run-goes T S (asFound S s) k s empty n (found-holds T S s f) .onward .leaves .now refl

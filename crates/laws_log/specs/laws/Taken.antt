@@ -19,13 +19,13 @@ use Rattle.rules_tables.specs.declared.Shape.{Shape}
 use Rattle.rules_store.specs.declared.Running.{Running}
 use Rattle.rules_tables.specs.Ids.{elements, firstVariable, inputs, variables}
 use Rattle.rules_store.specs.Running.{awake}
-use Rattle.rules_store.specs.Word.{nowOf, putOwner, runningOf, putDue, waiting, birthOf, value}
+use Rattle.rules_store.specs.Word.{nowOf, putOwner, runningOf, dueFlag, putDue, waiting, birthOf, value}
 use Rattle.rules_store.specs.Part.{due, input, sampled as «samples-part», just, also, everything, Leaves}
 use Rattle.rules_store.specs.laws.Writer.{leaves-owner}
 use Rattle.rules_store.specs.laws.Own.{running-put}
 use Rattle.rules_tables.specs.Owned.{any, nth}
 use Rattle.rules_moves.specs.Partner.{inputOwner}
-use Rattle.rules_moves.specs.Take.{sampled, passes, ticksIn, dtOf, isStart, startStop, wake, settle, settled, firedBy, taken}
+use Rattle.rules_moves.specs.Take.{sampled, passes, ticksIn, dtOf, isStart, started, startStop, wake, settle, settled, firedBy, taken}
 use Rattle.rules_moves.specs.declared.Next.the-variants.{Take}
 use Rattle.rules_tables.specs.Lawful.{Lawful}
 use Rattle.rules_moves.specs.laws.Taking.{passes-leaves, start-stop-leaves, wake-leaves, sampled-leaves}
@@ -119,7 +119,7 @@ module _ (T : List ℕ) (S : Shape) (B : Begun) (k : Lawful T S) (s₀ : List �
 
   -- ---- delay
   delays : flagAt T el ≡ delay → Goes T S B s₀ l′ (startStop T S el i t y)
-  unfolding startStop
+  unfolding startStop started
   delays e =
       let d = start-stop-leaves T S k (just due) refl el i t y within in
       quiet-goes T S B k s₀ l′ y go (startStop T S el i t y) (start-stop-leaves T S k quiet refl el i t y within) formed
@@ -128,10 +128,13 @@ module _ (T : List ℕ) (S : Shape) (B : Begun) (k : Lawful T S) (s₀ : List �
       formed : Formed T S (startStop T S el i t y)
       formed =
           let g′ = go .holds .formed in
-          by-choose (Formed T S) (isStart T S el i) (putDue el 1 (t + dtOf T S el y) y) (putDue el 0 0 y)
+          by-choose (Formed T S) (isStart T S el i) (started T S el t y) (putDue el 0 0 y)
+          (λ _.
+          by-choose (Formed T S) (eqb (dueFlag y el) 0) (putDue el 1 (t + dtOf T S el y) y) y
           (λ _.
           due-set T S el (t + dtOf T S el y) y within e (rw now-y (omega arith))
           (let a = dt-small T S el y in let b = g′ .parts .in-time in let c = now-y in omega arith) g′)
+          (λ _. g′))
           (λ _. due-cleared T S el y within g′)
 
   -- ---- by the element's sort, before anything is fired

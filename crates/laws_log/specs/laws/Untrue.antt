@@ -1,5 +1,5 @@
 -- The count of untrue steps: a step that is one raises it, and nothing else changes it. So it is the sum of what the runs tell, up to its end.
-use mathlib.Core.Path.{_≡_, refl, sym, ap, _∙_}
+use mathlib.Core.Path.{_≡_, refl, _∙_}
 use mathlib.Core.List.{List}
 use mathlib.Core.Bool.{Bool, not}
 use Prim.Native.Nat.{ℕ, zero, suc, _+_, _-_, _≤_, _<_, min}
@@ -9,34 +9,32 @@ use Rattle.rules_walks.specs.laws.Walk.{upTo-keeps}
 use Rattle.rules_walks.specs.First.{Sought}
 use Rattle.rules_walks.specs.Walk.{upTo}
 use Rattle.rules_tables.specs.declared.Shape.{Shape}
-use Rattle.rules_tables.specs.Actions.{actionOf, actionNumber}
-use Rattle.rules_tables.specs.laws.Actions.{action-below}
-use Rattle.rules_tables.specs.Frame.{fieldAt}
-use Rattle.rules_tables.specs.Ids.{elements, inputs, transitions, steps, firstOutput, outputs, associations, stepFrame}
+use Rattle.rules_tables.specs.Actions.{actionNumber}
+use Rattle.rules_tables.specs.Ids.{elements, inputs, steps, firstOutput, outputs, associations, stepFrame}
 use Rattle.rules_tables.specs.Lawful.{Lawful}
 use Rattle.rules_tables.specs.Owned.{any, nth}
 use Rattle.rules_store.specs.declared.Running.{Running}
 use Rattle.rules_store.specs.Formed.{Formed}
 use Rattle.rules_store.specs.Running.{entered, stepped, charting}
-use Rattle.rules_store.specs.Word.{countEnd, counted, nowOf, currentEvent, runningOf, putRunning, untrue, putNow, putDue, birthOf}
+use Rattle.rules_store.specs.Word.{countEnd, counted, nowOf, runningOf, putRunning, untrue, putNow, birthOf}
 use Rattle.rules_store.specs.laws.Word.{counted-grows, counted-adds}
 use Rattle.rules_store.specs.Part.{Part, untrues, just}
 use Rattle.rules_store.specs.laws.Writer.{leaves-now, leaves-running, leaves-due}
 use Rattle.rules_moves.specs.declared.Next.{Next}
 use Rattle.rules_moves.specs.declared.Next.the-variants.{Take, Change, Idle, Step, End, Back, Nothing}
 use Rattle.rules_moves.specs.Act.{untrueStep, oneStep, stepMove, eventOf, endMove}
-use Rattle.rules_moves.specs.Chart.{enabled, transitionOf, change, goIdle, elementOf, stateOf}
+use Rattle.rules_moves.specs.Chart.{elementOf, stateOf}
 use Rattle.rules_moves.specs.Means.{Means, Stepping}
 use Rattle.rules_moves.specs.Next.{nextOf, moveBy, move, untrueBy, untrueMove}
 use Rattle.rules_moves.specs.Take.{fireFound, settled, firedBy, taken}
 use Rattle.rules_moves.specs.laws.Firing.{fire-leaves}
-use Rattle.rules_moves.specs.laws.Moving.{change-leaves, idle-leaves, one-step-leaves, one-step-counts, untrue-few}
-use Rattle.rules_moves.specs.laws.Next.{next-means}
+use Rattle.rules_moves.specs.laws.Moving.{change-leaves, idle-leaves, one-step-counts, untrue-few}
+use Rattle.rules_moves.specs.laws.Next.{next-means, step-below}
 use Rattle.rules_moves.specs.laws.Taking.{settled-leaves, fire-found-leaves}
 use Rattle.rules_calls.specs.Calls.{dueAt, expired, expire, advanced, give, arrived}
 use Rattle.rules_calls.specs.Run.{after, untrueIn}
 use Rattle.rules_calls.specs.laws.Calls.{gives-leaves}
-use Rattle.laws_log.specs.laws.Moves.{formed-after}
+use Rattle.laws_log.specs.laws.Moves.{runs-within, formed-after}
 
 -- every part but this count
 abbrev others : Part → Bool
@@ -56,22 +54,16 @@ module _ (T : List ℕ) (S : Shape) (k : Lawful T S) where
     taken-same i l =
         fire-found-same (settled T S i t s) (firedBy T S i) (birthOf S s i) t ∙ settled-leaves T S k others refl refl refl refl refl i t s l .untrue-same refl
 
-    -- the element of a block that runs
-    runs-within : (runningOf s .mode ≡ 0 → ⊥) → elementOf s < elements S
-    runs-within busy = let o = f .block .busy busy .owner in let a = o .element in let b = o .within in omega arith
-
     step-counts : (j : ℕ) → Stepping T S (runningOf s) s j → untrue (stepMove T S t (runningOf s) j s) ≡ counted (untrueStep T S (stepFrame S j) (t - runningOf s .birth) s) (untrue s)
     unfolding stepMove
     step-counts j st =
         let r = runningOf s in
-        let h = k .is-good .action-steps (st .action) (r .step) (action-below T S (stateOf s) (r .action) (st .action) (st .found)) (st .left) in
-        let e = st .is in
-        put-same (oneStep T S (stepFrame S j) (t - r .birth) s) (stepped r) ∙ one-step-counts T S k j (t - r .birth) s (omega arith) (f .parts .long)
+        put-same (oneStep T S (stepFrame S j) (t - r .birth) s) (stepped r) ∙ one-step-counts T S k j (t - r .birth) s (step-below T S r s (k .is-good) j st) (f .parts .long)
 
     by-next : (n : Next) → Means T S (runningOf s) s n → untrue (moveBy T S t n s) ≡ counted (untrueBy T S t n s) (untrue s)
     unfolding moveBy untrueBy counted endMove
     by-next (Take i) m = taken-same i (m .1 .inside)
-    by-next (Change j) m = change-leaves T S k others refl refl (elementOf s) (runningOf s) j s (runs-within (λ z. omega (arith, m .0))) .untrue-same refl
+    by-next (Change j) m = change-leaves T S k others refl refl (elementOf s) (runningOf s) j s (runs-within T S s f (λ z. omega (arith, m .0))) .untrue-same refl
     by-next Idle m = idle-leaves T S k others refl s .untrue-same refl
     by-next (Step j) m = step-counts j m
     by-next (End j) m =

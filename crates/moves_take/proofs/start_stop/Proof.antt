@@ -7,40 +7,32 @@ use Rattle.moves_take.proofs.start_stop.Tie as tie
 rank-requires : tie.Need-rank-requires
 rank-requires c κs = search needs
 
-dt-of-requires : tie.Need-dt-of-requires
-dt-of-requires c κs = search needs
-
-add-put-due : tie.Need-add-put-due
-add-put-due c = search needs
-
-put-due-requires : tie.Need-put-due-requires
-put-due-requires c κs = search needs
+start-requires : tie.Need-start-requires
+start-requires c κs = search needs
 
 same-length : tie.Need-same-length
 same-length c = search needs
 
 returns : tie.Need-returns
-returns c = delay-start _ _ _ _ _ _ _ (c .before .before .before .before .before .before .before .rank .ensures .0) (c .before .before .before .before .before .before .if1 .taken) (c .before .before .before .before .dt-of .ensures .is) (c .before .before .put-due .ensures)
+returns c = delay-start _ _ _ _ _ _ _ (c .before .before .before .before .before .rank .ensures .0) (c .before .before .before .before .if1 .taken) (c .before .before .start .ensures)
 
-put-due-requires-2 : tie.Need-put-due-requires-2
-put-due-requires-2 c κs = search needs
+put-due-requires : tie.Need-put-due-requires
+put-due-requires c κs = search needs
 
 same-length-2 : tie.Need-same-length-2
 same-length-2 c = search needs
 
 returns-2 : tie.Need-returns-2
-returns-2 c = delay-stop _ _ _ _ _ _ _ (c .before .before .before .before .before .rank .ensures .0) (c .before .before .before .before .if1 .left) (c .before .before .put-due2 .ensures)
+returns-2 c = delay-stop _ _ _ _ _ _ _ (c .before .before .before .before .before .rank .ensures .0) (c .before .before .before .before .if1 .left) (c .before .before .put-due .ensures)
 
 pub start-stop-spec : {M : Type 1} → statement M
 start-stop-spec =
     tie.close
     (tie.spec
     rank-requires
-    dt-of-requires
-    add-put-due
-    put-due-requires
+    start-requires
     same-length
     returns
-    put-due-requires-2
+    put-due-requires
     same-length-2
     returns-2)

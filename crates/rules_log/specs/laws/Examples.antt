@@ -1,9 +1,10 @@
--- Computed examples: an order that the law of order forbids, and one that it allows; and what a log says of chains, inputs, buffers and records.
-use mathlib.Core.Path.{_≡_, refl, ap, _∙_}
+-- Computed examples: an order that the law of order forbids, and one that it allows; and what a log says of chains, inputs, buffers, records and delays.
+use mathlib.Core.Path.{_≡_, refl, sym, ap, _∙_}
 use mathlib.Core.Bool.{true, false}
 use mathlib.Core.List.{List, [], _∷_, _++_}
-use Prim.Native.Nat.{ℕ, _≤_}
+use Prim.Native.Nat.{ℕ, _+_, _≤_}
 use native.Mathlib.Omega.{arith}
+use borrow.Author.Tests.{eq-eqb}
 use Rattle.rules_walks.specs.Choose.{choose}
 use Rattle.rules_walks.specs.laws.Choose.{choose-true, choose-false}
 use Rattle.rules_tables.specs.declared.Shape.{Shape}
@@ -12,11 +13,14 @@ use Rattle.rules_store.specs.Word.{nowOf, lastUpdate, value, buffer}
 use Rattle.rules_moves.specs.Associated.{associated}
 use Rattle.rules_moves.specs.Carry.{voiceOf, carries}
 use Rattle.rules_moves.specs.Connected.{connected}
+use Rattle.rules_moves.specs.Partner.{inputOwner, outputOwner}
 use Rattle.rules_moves.specs.Record.{putOut}
+use Rattle.rules_moves.specs.Take.{dtOf, isStart, sampled}
 use Rattle.rules_calls.specs.declared.Answer.{Answer}
 use Rattle.rules_calls.specs.Public.{AdvanceCall, ArrivalCall, RunCall}
 use Rattle.rules_log.specs.Log.{How, begins, goesOn, takes, fires, Log, empty, more}
 use Rattle.rules_log.specs.Origin.{Event, waits, Chain, born, noChain, birthIn, Begun, fresh, Ordered, origin, lastSampled, lastCopied, recordsOf}
+use Rattle.rules_log.specs.Timer.{Timer, until, rests, startTimer, timer}
 use Rattle.rules_log.specs.Sequence.{unless, logAdvance, logArrival, logRun, Since, advances, arrives, runs}
 
 -- a sink with two event inputs
@@ -88,6 +92,32 @@ module _ (T : List ℕ) (S : Shape) (B : Begun) (l : Log) where
       → recordsOf T S B (more (more l (fires o (begins t) s)) (takes c s′)) ≡ recordsOf T S B l ++ putOut T S c t (nowOf s′) s′
   unfolding recordsOf origin
   record-born o c t s s′ e = ap (λ (q : Chain). recordsOf T S B l ++ putOut T S c (birthIn q) (nowOf s′) s′) (choose-true (connected T S o c) (born t) _ e)
+
+-- ---- a delay: of two STARTs the first counts; a START after STOP, and one after the output, is a first one
+module _ (T : List ℕ) (S : Shape) (el i j o : ℕ) (l : Log) (s s′ : List ℕ) (start : inputOwner T S i ≡ el) (is-start : isStart T S el i ≡ true) where
+  abbrev dueBy : List ℕ → ℕ
+  dueBy x = nowOf x + dtOf T S el (sampled T S i x)
+
+  -- START, where the timer was so
+  starts : (x : Log) (y : List ℕ) → timer T S el (more x (takes i y)) ≡ startTimer (dueBy y) (timer T S el x)
+  unfolding timer choose
+  starts x y = rw (eq-eqb (inputOwner T S i) el start, is-start) refl
+
+  pub first-counts : timer T S el (more (more l (takes i s)) (takes i s′)) ≡ timer T S el (more l (takes i s))
+  unfolding startTimer
+  first-counts = starts (more l (takes i s)) s′ ∙ ap (startTimer (dueBy s′)) (starts l s) ∙ once (timer T S el l) ∙ sym (starts l s)
+    where
+      once : (x : Timer) → startTimer (dueBy s′) (startTimer (dueBy s) x) ≡ startTimer (dueBy s) x
+      once rests = refl
+      once (until u) = refl
+
+  pub counts-after-stop : inputOwner T S j ≡ el → isStart T S el j ≡ false → timer T S el (more (more l (takes j s)) (takes i s′)) ≡ until (dueBy s′)
+  unfolding timer startTimer choose
+  counts-after-stop e f = rw (eq-eqb (inputOwner T S i) el start, is-start, eq-eqb (inputOwner T S j) el e, f) refl
+
+  pub counts-after-output : (how : How) → outputOwner T S o ≡ el → timer T S el (more (more l (fires o how s)) (takes i s′)) ≡ until (dueBy s′)
+  unfolding timer startTimer choose
+  counts-after-output how e = rw (eq-eqb (inputOwner T S i) el start, is-start, eq-eqb (outputOwner T S o) el e) refl
 
 -- ---- after a load there is no chain, which is not one with birth 0
 pub no-chain : (T : List ℕ) (S : Shape) (e : Event) → origin T S (fresh T S) empty e ≡ noChain

@@ -20,7 +20,7 @@ use Rattle.rules_tables.specs.Ids.{inputs, variables, associations, actions, co
 use Rattle.rules_tables.specs.Owned.{belongs, isNth}
 use Rattle.rules_tables.specs.Actions.{actionOf, actionNumber}
 use Rattle.rules_store.specs.Layout.{elementAt, inputAt, variableAt}
-use Rattle.rules_store.specs.Word.{counted, putOwner, runningOf, putRunning, overwritten, putOverwritten, untrue, putUntrue, putDue, waiting, lastUpdate, putInput, value, putValue, buffer}
+use Rattle.rules_store.specs.Word.{counted, putOwner, runningOf, putRunning, overwritten, putOverwritten, untrue, putUntrue, dueFlag, putDue, waiting, birthOf, lastUpdate, putInput, value, putValue, buffer}
 use Rattle.rules_moves.specs.declared.Key.{Key}
 use Rattle.rules_moves.specs.declared.Next.the-variants.{Idle, Back}
 use Rattle.rules_moves.specs.Act.{stepOutcome, resultPut, untrueStep, countUntrue, oneStep, eventOf, endMove}
@@ -31,7 +31,7 @@ use Rattle.rules_moves.specs.Guard.{guardOf, guardAt, holds}
 use Rattle.rules_moves.specs.Least.{beats}
 use Rattle.rules_moves.specs.Next.{moveBy}
 use Rattle.rules_moves.specs.Record.{head, valueOf, values, recordOf, putOut}
-use Rattle.rules_moves.specs.Take.{sample, fireFound, ticksIn, dtOf, isStart, startStop, sampled}
+use Rattle.rules_moves.specs.Take.{sample, fireFound, ticksIn, dtOf, isStart, started, startStop, sampled, settle, settled, firedBy, taken}
 
 abbrev key : ℕ → ℕ → ℕ → Key
 key last priority local = record { last = last; priority = priority; local = local }
@@ -166,20 +166,29 @@ pub step-into-itself : at (11 ∷ 16 ∷ []) (oneStep (frame 9 1 0 0 0 0) (frame
 unfolding oneStep stepOutcome resultPut untrueStep countUntrue counted outcome trueValue operation clip choose putValue value untrue putUntrue variableAt inputs variables flagAt fieldAt halfAt
 step-into-itself = refl
 
--- ---- "Delay: START sets due to now + DT (a negative DT counts as 0), STOP clears it.": DT is 50, at 9
+-- ---- "Delay: START sets due to now + DT (a negative DT counts as 0), STOP clears it.": START is event input 0 and associated with DT, whose value is 30 and
+-- whose buffer 50; now is 9
 abbrev delaying : List ℕ
-delaying = frame 1 2 0 0 0 0 ++ frame 2 0 0 0 0 0 ++ frame 2 1 0 0 0 0 ++ frame 4 0 0 0 0 0
+delaying = frame 1 2 0 0 0 0 ++ frame 2 0 0 0 0 0 ++ frame 2 1 0 0 0 0 ++ frame 4 0 0 0 0 0 ++ frame 5 0 0 0 0 0
 
-abbrev due : List ℕ
-due = 9 ∷ replicate 16 0 ++ (1 ∷ 20 ∷ 0 ∷ 0 ∷ 0 ∷ 0 ∷ 0 ∷ 0 ∷ 50 ∷ 50 ∷ [])
+abbrev clocked : (flag at : ℕ) → List ℕ
+clocked flag at = 9 ∷ replicate 16 0 ++ (flag ∷ at ∷ 1 ∷ 3 ∷ 5 ∷ 1 ∷ 4 ∷ 6 ∷ 30 ∷ 50 ∷ [])
 
-pub delay-starts : at (17 ∷ 18 ∷ []) (startStop delaying (frames 1 2 0 1 0 0 0) 0 0 9 due) ≡ 1 ∷ 59 ∷ []
-unfolding startStop isStart dtOf ticksIn putDue elementAt value variableAt isNth belongs firstFrom countIf choose inputs variables flagAt fieldAt halfAt
-delay-starts = refl
+-- due flag and due time, and DT, once these events are taken
+abbrev afterwards : List ℕ → List ℕ → List ℕ
+afterwards [] s = at (17 ∷ 18 ∷ 25 ∷ []) s
+afterwards (i ∷ is) s = afterwards is (taken delaying (frames 1 2 0 1 1 0 0) i 9 s)
 
-pub delay-stops : at (17 ∷ 18 ∷ []) (startStop delaying (frames 1 2 0 1 0 0 0) 0 1 9 due) ≡ 0 ∷ 0 ∷ []
-unfolding startStop isStart putDue elementAt belongs countIf choose flagAt fieldAt halfAt
-delay-stops = refl
+-- START; STOP; STOP and then START: of a delay that is not due, of one due at 20, and of one due now. A START that finds it due leaves that, and "DT is still
+-- sampled"; one after STOP counts
+pub delay-takes :
+    map (λ (is : List ℕ). map (afterwards is) (clocked 0 0 ∷ clocked 1 20 ∷ clocked 1 9 ∷ [])) ((0 ∷ []) ∷ (1 ∷ []) ∷ (1 ∷ 0 ∷ []) ∷ [])
+    ≡ ((1 ∷ 59 ∷ 50 ∷ []) ∷ (1 ∷ 20 ∷ 50 ∷ []) ∷ (1 ∷ 9 ∷ 50 ∷ []) ∷ [])
+    ∷ ((0 ∷ 0 ∷ 30 ∷ []) ∷ (0 ∷ 0 ∷ 30 ∷ []) ∷ (0 ∷ 0 ∷ 30 ∷ []) ∷ [])
+    ∷ ((1 ∷ 59 ∷ 50 ∷ []) ∷ (1 ∷ 59 ∷ 50 ∷ []) ∷ (1 ∷ 59 ∷ 50 ∷ []) ∷ [])
+    ∷ []
+unfolding taken settled settle sampled sample speaks fireFound firedBy upTo startStop started isStart dtOf ticksIn dueFlag putDue birthOf putInput elementAt inputAt value putValue buffer variableAt isNth belongs firstFrom countIf choose inputs variables associations flagAt fieldAt halfAt
+delay-takes = refl
 
 -- ---- "Mode 2, action's steps done: its event, if any, is fired with the current birth; next action, or 0 after the last, step 0": an action without steps fires
 -- event output 0, which is connected to event input 0; the event being run was born at 5, and now is 9

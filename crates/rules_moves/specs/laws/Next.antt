@@ -27,7 +27,7 @@ use Rattle.rules_moves.specs.declared.Next.{Next}
 use Rattle.rules_moves.specs.declared.Next.the-variants.{Take, Change, Idle, Step, End, Back, Nothing}
 use Rattle.rules_moves.specs.Next.{eventNext, chartNext, actNext, nextBy}
 use Rattle.rules_moves.specs.Ready.{inTable, Ready}
-use Rattle.rules_moves.specs.Means.{Acting, Means}
+use Rattle.rules_moves.specs.Means.{Acting, Stepping, Means}
 
 module _ (T : List ℕ) (S : Shape) (r : Running) (s : List ℕ) where
   event-means : r .mode ≡ idle → (x : Best) → least T S s ≡ x → Means T S r s (eventNext x)
@@ -71,14 +71,17 @@ module _ (T : List ℕ) (S : Shape) (r : Running) (s : List ℕ) where
 
   -- ---- what was found is one of the table's
   module _ (g : Good T S) where
-    step-below : (a j : ℕ) → actionOf T S (stateOf s) (r .action) ≡ one a → r .step < fieldAt T (actionFrame S a) 2 → j ≡ fieldAt T (actionFrame S a) 1 + r .step → j < steps S
-    step-below a j e l p = let h = g .action-steps a (r .step) (action-below T S (stateOf s) (r .action) a e) l in omega arith
+    pub step-below : (j : ℕ) → Stepping T S r s j → j < steps S
+    step-below j m =
+        let h = g .action-steps (m .action) (r .step) (action-below T S (stateOf s) (r .action) (m .action) (m .found)) (m .left) in
+        let e = m .is in
+        omega arith
 
     known-by : (n : Next) → Means T S r s n → inTable S n ≡ true
     known-by (Take i) m = lt-ltb i (inputs S) (m .1 .inside)
     known-by (Change j) m = lt-ltb j (transitions S) (transition-below j (m .1))
     known-by Idle m = refl
-    known-by (Step j) m = lt-ltb j (steps S) (step-below (m .action) j (m .found) (m .left) (m .is))
+    known-by (Step j) m = lt-ltb j (steps S) (step-below j m)
     known-by (End j) m = lt-ltb j (actions S) (action-below T S (stateOf s) (r .action) j (m .found))
     known-by Back m = refl
     known-by Nothing m = refl

@@ -35,7 +35,7 @@ use Rattle.rules_moves.specs.laws.Carry.{of-input}
 use Rattle.rules_moves.specs.Connected.{connected}
 use Rattle.rules_moves.specs.Reached.{Reached}
 use Rattle.rules_moves.specs.laws.Firing.{fire-leaves, fire-marked}
-use Rattle.rules_moves.specs.Take.{sample, samples, sampled, passTo, pass, passes, fireFound, dtOf, isStart, startStop, wake, settle, settled, firedBy, taken}
+use Rattle.rules_moves.specs.Take.{sample, samples, sampled, passTo, pass, passes, fireFound, isStart, started, startStop, wake, settle, settled, firedBy, taken}
 use Rattle.rules_moves.specs.Associated.{joinsVariable, associated}
 
 module _ (T : List ℕ) (S : Shape) (k : Lawful T S) where
@@ -81,11 +81,16 @@ module _ (T : List ℕ) (S : Shape) (k : Lawful T S) where
         upTo-keeps (Leaves T S f s) (pass T S i) (associations S) s
         (λ j h x w. leaves-then T S f s x (pass T S i j x) (pass-leaves c i j x) w) (leaves-all T S f s)
 
+    started-leaves : f due ≡ true → (el t : ℕ) (s : List ℕ) → el < elements S → Leaves T S f s (started T S el t s)
+    unfolding started
+    started-leaves e el t s l =
+        by-choose (Leaves T S f s) _ _ s (λ _. leaves-due T S f s el 1 _ l e) (λ _. leaves-all T S f s)
+
     pub start-stop-leaves : f due ≡ true → (el i t : ℕ) (s : List ℕ) → el < elements S → Leaves T S f s (startStop T S el i t s)
     unfolding startStop
     start-stop-leaves e el i t s l =
-        by-choose (Leaves T S f s) (isStart T S el i) (putDue el 1 (t + dtOf T S el s) s) (putDue el 0 0 s)
-        (λ _. leaves-due T S f s el 1 (t + dtOf T S el s) l e) (λ _. leaves-due T S f s el 0 0 l e)
+        by-choose (Leaves T S f s) (isStart T S el i) (started T S el t s) (putDue el 0 0 s)
+        (λ _. started-leaves e el t s l) (λ _. leaves-due T S f s el 0 0 l e)
 
     pub wake-leaves : f block ≡ true → (el i birth : ℕ) (s : List ℕ) → Leaves T S f s (wake el i birth s)
     unfolding wake

@@ -1,16 +1,16 @@
 -- An accepted table's owners have their entries.
-use mathlib.Core.Path.{_≡_, sym, ap, subst, _∙_}
+use mathlib.Core.Path.{_≡_, subst}
 use mathlib.Core.List.{List}
 use mathlib.Core.Logic.{⊎-elim}
-use Prim.Native.Nat.{ℕ, _+_, _≤_, _<_}
+use Prim.Native.Nat.{ℕ, _≤_, _<_}
 use native.Mathlib.Omega.{arith}
 use Rattle.rules_walks.specs.laws.Pick.{tri}
-use Rattle.rules_tables.specs.Kind.{element, association}
+use Rattle.rules_tables.specs.Kind.{association}
 use Rattle.rules_tables.specs.Frame.{kindAt, framesOf, flagAt, fieldAt}
 use Rattle.rules_tables.specs.Form.{formOf}
-use Rattle.rules_tables.specs.Place.{startOf, countOf, place}
 use Rattle.rules_tables.specs.Judge.{shapeOf}
 use Rattle.rules_tables.specs.Accepted.{Accepted}
+use Rattle.rules_tables.specs.laws.Lawful.{lawful}
 use Rattle.rules_tables.specs.Ids.{variables, associations, transitions, actions, connections}
 use Rattle.table_index.specs.Index.{Owners}
 
@@ -23,24 +23,10 @@ owners T a =
       transition-from = λ j l. let w = a .found 7 j (omega (arith, a .next 7)) in let h = a .transition-of _ (w .in-table) (w .kind) .from .exists in let m = a .limit 6 (omega arith) (omega arith) in omega arith;
       action-state = λ j l. let w = a .found 8 j (omega (arith, a .next 8)) in let h = a .action-of _ (w .in-table) (w .kind) .state .exists in let m = a .limit 6 (omega arith) (omega arith) in omega arith;
       connection-output = λ j l. let w = a .found 10 j (omega (arith, a .next 10)) in let h = a .event-connection _ (w .in-table) (w .kind) .output in let m = a .limit 3 (omega arith) (omega arith) in omega arith;
-      action-basic =
-          λ j l n.
-          let w = a .found 8 j (omega (arith, a .next 8)) in
-          let x = a .action-of _ (w .in-table) (w .kind) in
-          let o = x .event n in
-          let q = a .found 6 (fieldAt T (startOf T 8 + j) 0) (x .state .exists) in
-          let b = a .state-of _ (q .in-table) (q .kind) in
-          let own : fieldAt T (startOf T 3 + fieldAt T (startOf T 8 + j) 3) 0 ≡ fieldAt T (startOf T 6 + fieldAt T (startOf T 8 + j) 0) 0 = sym (owner-at 3 _ (o .exists)) ∙ o .own ∙ owner-at 6 _ (x .state .exists) in
-          rw own (sym (ap (flagAt T) (element-at _ (b .exists))) ∙ b .is);
+      action-basic = lawful T a .action-basic;
       variable-role = λ v l. let w = a .found 4 v (omega (arith, a .next 4)) in flagged 4 _ (w .in-table) (w .kind);
     }
   where
-    owner-at : (k id : ℕ) → id < countOf T k → fieldAt T (place T k id) 0 ≡ fieldAt T (startOf T k + id) 0
-    owner-at k id l = ap (λ (f : ℕ). fieldAt T f 0) (a .at k id l)
-
-    element-at : (el : ℕ) → el < countOf T element → place T element el ≡ el
-    element-at el l = let h = a .at element el l in let z = a .first in omega arith
-
     flagged : (k f : ℕ) → f < framesOf T → kindAt T f ≡ k → flagAt T f ≤ formOf k .flags
     flagged k f l e = subst (λ (h : ℕ). flagAt T f ≤ formOf h .flags) e (a .form f l .body .flag)
 
