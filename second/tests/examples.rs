@@ -34,6 +34,15 @@ const START: std::ops::Range<usize> = 25..28;
 /// The value and the buffer of DT, variable 1.
 const DT: std::ops::Range<usize> = 36..38;
 
+/// A START that counts, and one right after it that does not.
+fn counts_once(table: &[u8], store: &mut [u32], dt: i32) {
+    let due = store[0] + dt.unsigned_abs();
+    for dt in [dt, dt - 10] {
+        start(table, store, dt);
+        assert_eq!(store[DUE], [1, due]);
+    }
+}
+
 /// The worked session up to before its run: time 10, one arrival.
 fn arrived() -> (Vec<u8>, Vec<u32>) {
     let table = worked_table();
@@ -208,10 +217,7 @@ fn a_start_after_stop_is_a_first_start() {
         stop(&table, &mut store);
         assert_eq!(store[DUE], [0, 0]);
         to(&table, &mut store, 120 + ticks);
-        start(&table, &mut store, 40);
-        assert_eq!(store[DUE], [1, 160 + ticks]);
-        start(&table, &mut store, 10);
-        assert_eq!(store[DUE], [1, 160 + ticks]);
+        counts_once(&table, &mut store, 40);
     }
 }
 
@@ -222,10 +228,7 @@ fn a_start_after_the_output_is_a_first_start() {
         start(&table, &mut store, 10);
         fires_at(&table, &mut store, 150);
         to(&table, &mut store, 150 + ticks);
-        start(&table, &mut store, 20);
-        assert_eq!(store[DUE], [1, 170 + ticks]);
-        start(&table, &mut store, 10);
-        assert_eq!(store[DUE], [1, 170 + ticks]);
+        counts_once(&table, &mut store, 20);
     }
 }
 

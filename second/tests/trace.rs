@@ -205,18 +205,12 @@ fn a_move_has_at_most_twenty_frames() {
     }
 }
 
+/// A source and a delay with their events, before variables and connections.
+const DELAY: &[&str] = &["0103", "0102 0001", "0200 0001", "0201 0001", "0300", "0300 0001"];
+
 #[test]
 fn a_delay_ends_at_once_and_its_due_time_is_not_traced() {
-    let table = table(&[
-        "0103",
-        "0102 0001",
-        "0200 0001",
-        "0201 0001",
-        "0300",
-        "0300 0001",
-        "0400 0001 0000 0032",
-        "0A00",
-    ]);
+    let table = table(&[DELAY, &["0400 0001 0000 0032", "0A00"]].concat());
     let mut store = loaded(&table, 40);
     arrival(&table, &mut store, 0, 0, &[]);
     let expected = [
@@ -229,20 +223,8 @@ fn a_delay_ends_at_once_and_its_due_time_is_not_traced() {
 
 #[test]
 fn a_start_while_due_is_traced_with_the_dt_that_it_samples() {
-    let table = table(&[
-        "0103",
-        "0102 0001",
-        "0200 0001",
-        "0201 0001",
-        "0300",
-        "0300 0001",
-        "0401",
-        "0400 0001",
-        "0500 0000 0001",
-        "0501 0000 0000",
-        "0A00",
-        "0B00 0000 0001",
-    ]);
+    let fed = ["0401", "0400 0001", "0500 0000 0001", "0501 0000 0000", "0A00", "0B00 0000 0001"];
+    let table = table(&[DELAY, &fed].concat());
     let mut store = loaded(&table, 40);
     for dt in [50, 7, 9] {
         arrival(&table, &mut store, 0, 0, &[dt]);

@@ -1,26 +1,17 @@
 -- From store s₀ on: the laws hold, and beside them now stands still, the overwritten count does not fall, and nothing past the need is written.
 use mathlib.Core.List.{List}
-use mathlib.Core.Bool.{Bool, true, false}
+use mathlib.Core.Bool.{Bool}
 use Prim.Native.Nat.{ℕ, _≤_}
 use Rattle.rules_tables.specs.declared.Shape.{Shape}
 use Rattle.rules_store.specs.Word.{overwritten}
-use Rattle.rules_store.specs.Part.{Part, time, block, count, untrues, chart, due, input, sampled as «samples-part», computed, buffered, Leaves}
+use Rattle.rules_store.specs.Part.{Part, time, allBut, Leaves}
 use Rattle.rules_log.specs.Log.{Log}
 use Rattle.rules_log.specs.Origin.{Begun}
 use Rattle.laws_log.specs.Holds.{Holds}
 
--- every part but now
+-- now stands still
 abbrev pub still : Part → Bool
-still time = false
-still block = true
-still count = true
-still untrues = true
-still chart = true
-still due = true
-still input = true
-still «samples-part» = true
-still computed = true
-still buffered = true
+still = allBut time
 
 pub record Onward (T : List ℕ) (S : Shape) (s₀ s : List ℕ) : Type 0 where
   pub leaves : Leaves T S still s₀ s

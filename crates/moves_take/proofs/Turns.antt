@@ -38,6 +38,7 @@ use Rattle.rules_moves.specs.Take.{sample, samples, sampled, passTo, pass, pass
 use Rattle.rules_moves.specs.Record.{head, valueOf, values, recordOf, recordSize, putOut}
 use Rattle.moves_take.specs.Received.{Sized, Event, Received}
 use Rattle.rules_moves.specs.laws.Record.{sink-writes, others-write-none}
+use Rattle.rules_moves.specs.laws.Taking.{fires-nothing}
 use Rattle.moves_take.specs.laws.Sized.{sink-sized, others-sized}
 
 -- what a search among n frames found is one of them
@@ -146,8 +147,7 @@ module _ (T : List ℕ) (S : Shape) (i : ℕ) {el : ℕ} (owner : el ≡ inputOw
 -- ---- an event received, by the element's sort
 module _ (T : List ℕ) (S : Shape) (i time : ℕ) (s o : List ℕ) (at : ℕ) {sort el birth last : ℕ} (e : Event T S s i sort el birth last) where
   fires-none : (sort ≡ interface → ⊥) → firedBy T S i ≡ missing
-  unfolding firedBy
-  fires-none n = choose-false _ _ _ (ne-eqb _ _ (λ q. n (e .sort-is ∙ q)))
+  fires-none n = fires-nothing T S i (λ q. n (e .sort-is ∙ q))
 
   fires-partner : sort ≡ interface → firedBy T S i ≡ partnerOutput T S i
   unfolding firedBy

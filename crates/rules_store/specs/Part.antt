@@ -1,7 +1,7 @@
 -- The parts of a store, and what a change of it leaves. Laws above this crate speak of parts and never of places.
 use mathlib.Core.Path.{_≡_}
 use mathlib.Core.List.{List}
-use mathlib.Core.Bool.{Bool, true, false}
+use mathlib.Core.Bool.{Bool, true, false, not}
 use Prim.Native.Nat.{ℕ, _≤_, _<_}
 use lib.Dec.{eqb}
 use lib.ListN.{length, getD}
@@ -46,6 +46,10 @@ just a p = eqb (code a) (code p)
 -- one part more
 abbrev pub also : Part → (Part → Bool) → Part → Bool
 also a f p = either (just a p) (f p)
+
+-- every part but this one
+abbrev pub allBut : Part → Part → Bool
+allBut a p = not (just a p)
 
 abbrev pub everything : Part → Bool
 everything p = true

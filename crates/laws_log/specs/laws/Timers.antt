@@ -1,7 +1,7 @@
 -- A delay is due as the log says: from the first START until STOP or its output, whatever else happens.
 use mathlib.Core.Path.{_≡_, refl, sym, ap, _∙_}
 use mathlib.Core.List.{List}
-use mathlib.Core.Bool.{Bool, true, false, not}
+use mathlib.Core.Bool.{Bool, true, false}
 use Prim.Native.Nat.{ℕ, zero, suc, _+_, _-_, _≤_, _<_}
 use native.Mathlib.Omega.{arith}
 use lib.Dec.{eqb, ltb}
@@ -14,7 +14,6 @@ use Rattle.rules_walks.specs.First.{Sought, one, missing}
 use Rattle.rules_walks.specs.Walk.{upTo}
 use Rattle.rules_tables.specs.Kind.{none, basic, interface, delay, source}
 use Rattle.rules_tables.specs.declared.Shape.{Shape}
-use Rattle.rules_tables.specs.Actions.{actionNumber}
 use Rattle.rules_tables.specs.laws.Actions.{action-below}
 use Rattle.rules_tables.specs.Frame.{flagAt, fieldAt}
 use Rattle.rules_tables.specs.Ids.{elements, inputs, actions, firstOutput, outputs, associations, actionFrame, stepFrame}
@@ -24,15 +23,15 @@ use Rattle.rules_tables.specs.laws.Owned.{nth-belongs}
 use Rattle.rules_store.specs.declared.Running.{Running}
 use Rattle.rules_store.specs.Formed.{Formed}
 use Rattle.rules_store.specs.Layout.{need}
-use Rattle.rules_store.specs.Running.{entered, stepped, charting}
+use Rattle.rules_store.specs.Running.{stepped, charting}
 use Rattle.rules_store.specs.Word.{nowOf, runningOf, putRunning, putNow, dueFlag, putDue, birthOf}
-use Rattle.rules_store.specs.Part.{Part, due, just, everything, SameDue}
+use Rattle.rules_store.specs.Part.{Part, due, allBut, everything, SameDue}
 use Rattle.rules_store.specs.Own.{Due}
 use Rattle.rules_store.specs.laws.Own.{due-put, due-other}
 use Rattle.rules_store.specs.laws.Writer.{leaves-now, leaves-running, leaves-due}
 use Rattle.rules_moves.specs.declared.Next.{Next}
 use Rattle.rules_moves.specs.declared.Next.the-variants.{Take, Change, Idle, Step, End, Back, Nothing}
-use Rattle.rules_moves.specs.Act.{oneStep, stepMove, eventOf, endMove}
+use Rattle.rules_moves.specs.Act.{oneStep, stepMove, eventOf}
 use Rattle.rules_moves.specs.Chart.{elementOf, stateOf}
 use Rattle.rules_moves.specs.Fire.{fire}
 use Rattle.rules_moves.specs.Means.{Means, Stepping}
@@ -41,10 +40,10 @@ use Rattle.rules_moves.specs.Partner.{inputOwner, outputOwner, partnerOutput}
 use Rattle.rules_moves.specs.Take.{fireFound, passes, dtOf, isStart, started, startStop, wake, sampled, settle, settled, firedBy, taken}
 use Rattle.rules_moves.specs.laws.Delays.{first-start, second-start, stop-clears}
 use Rattle.rules_moves.specs.laws.Firing.{fire-leaves}
-use Rattle.rules_moves.specs.laws.Moving.{change-leaves, idle-leaves, one-step-leaves}
+use Rattle.rules_moves.specs.laws.Moving.{change-leaves, idle-leaves, one-step-leaves, end-leaves}
 use Rattle.rules_moves.specs.laws.Next.{next-means, step-below}
 use Rattle.rules_moves.specs.laws.Partner.{same-element}
-use Rattle.rules_moves.specs.laws.Taking.{sampled-leaves, passes-leaves, wake-leaves, fire-found-leaves}
+use Rattle.rules_moves.specs.laws.Taking.{fires-nothing, sampled-leaves, passes-leaves, wake-leaves, fire-found-leaves}
 use Rattle.rules_calls.specs.Calls.{dueAt, expired, expire, advanced, give, arrived, ofSource}
 use Rattle.rules_calls.specs.Run.{after}
 use Rattle.rules_calls.specs.laws.Calls.{gives-leaves}
@@ -54,7 +53,7 @@ use Rattle.laws_log.specs.laws.Moves.{runs-within, formed-after, now-aft
 
 -- every part but the due words
 abbrev others : Part → Bool
-others p = not (just due p)
+others = allBut due
 
 module _ (T : List ℕ) (S : Shape) (k : Lawful T S) (el : ℕ) (le : el < elements S) (is-delay : flagAt T el ≡ delay) where
   -- where the due words stay, what they say stays
@@ -124,8 +123,7 @@ module _ (T : List ℕ) (S : Shape) (k : Lawful T S) (el : ℕ) (le : el < eleme
 
   -- its own START or STOP: it fires nothing
   fires-none : (i : ℕ) → inputOwner T S i ≡ el → firedBy T S i ≡ missing
-  unfolding firedBy choose
-  fires-none i e = rw (e, is-delay) refl
+  fires-none i e = fires-nothing T S i (λ q. let z = sym (ap (flagAt T) e ∙ is-delay) ∙ q in omega arith)
 
   -- the store after it, by what it was before
   own-clocked : (i t : ℕ) (s : List ℕ) → i < inputs S → inputOwner T S i ≡ el → Formed T S s → (x : Timer) → Clocked el x s
@@ -179,14 +177,6 @@ module _ (T : List ℕ) (S : Shape) (k : Lawful T S) (el : ℕ) (le : el < eleme
         let x = oneStep T S (stepFrame S j) (t - r .birth) s in
         same-then s x (putRunning (stepped r) x) (one-step-leaves T S k others refl refl j (t - r .birth) s (step-below T S r s (k .is-good) j st) .dues refl el le) (put-same x (stepped r))
 
-    end-same : (j : ℕ) → SameDue s (endMove T S t (stateOf s) (runningOf s) j s) el
-    unfolding endMove
-    end-same j =
-        let r = runningOf s in
-        let x = fireFound T S (eventOf T S j) (r .birth) t s in
-        let n = entered (actionNumber T S (stateOf s) (r .action + 1)) r in
-        same-then s x (putRunning n x) (fire-found-same s (eventOf T S j) (r .birth) t) (put-same x n)
-
     -- what an action fires is a basic element's
     action-other : (j o : ℕ) → j < actions S → eventOf T S j ≡ one o → outputOwner T S o ≡ el → ⊥
     unfolding eventOf choose
@@ -208,7 +198,7 @@ module _ (T : List ℕ) (S : Shape) (k : Lawful T S) (el : ℕ) (le : el < eleme
     by-next e l c (Step j) m = clocked-same (timer T S el l) s _ (step-same j m) c
     by-next e l c (End j) m =
         rw (fire-log-same (eventOf T S j) goesOn s l (λ o q. action-other j o (action-below T S (stateOf s) (runningOf s .action) j (m .found)) q))
-        (clocked-same (timer T S el l) s _ (end-same j) c)
+        (clocked-same (timer T S el l) s _ (end-leaves T S k others refl refl refl refl t (stateOf s) (runningOf s) j s .dues refl el le) c)
     by-next e l c Back m = clocked-same (timer T S el l) s _ (put-same s (charting (runningOf s))) c
     by-next e l c Nothing m = c
 

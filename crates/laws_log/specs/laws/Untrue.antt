@@ -1,7 +1,7 @@
 -- The count of untrue steps: a step that is one raises it, and nothing else changes it. So it is the sum of what the runs tell, up to its end.
 use mathlib.Core.Path.{_≡_, refl, _∙_}
 use mathlib.Core.List.{List}
-use mathlib.Core.Bool.{Bool, not}
+use mathlib.Core.Bool.{Bool}
 use Prim.Native.Nat.{ℕ, zero, suc, _+_, _-_, _≤_, _<_, min}
 use native.Mathlib.Omega.{arith}
 use Rattle.rules_walks.specs.laws.Choose.{by-choose}
@@ -9,26 +9,25 @@ use Rattle.rules_walks.specs.laws.Walk.{upTo-keeps}
 use Rattle.rules_walks.specs.First.{Sought}
 use Rattle.rules_walks.specs.Walk.{upTo}
 use Rattle.rules_tables.specs.declared.Shape.{Shape}
-use Rattle.rules_tables.specs.Actions.{actionNumber}
 use Rattle.rules_tables.specs.Ids.{elements, inputs, steps, firstOutput, outputs, associations, stepFrame}
 use Rattle.rules_tables.specs.Lawful.{Lawful}
 use Rattle.rules_tables.specs.Owned.{any, nth}
 use Rattle.rules_store.specs.declared.Running.{Running}
 use Rattle.rules_store.specs.Formed.{Formed}
-use Rattle.rules_store.specs.Running.{entered, stepped, charting}
+use Rattle.rules_store.specs.Running.{stepped, charting}
 use Rattle.rules_store.specs.Word.{countEnd, counted, nowOf, runningOf, putRunning, untrue, putNow, birthOf}
 use Rattle.rules_store.specs.laws.Word.{counted-grows, counted-adds}
-use Rattle.rules_store.specs.Part.{Part, untrues, just}
+use Rattle.rules_store.specs.Part.{Part, untrues, allBut}
 use Rattle.rules_store.specs.laws.Writer.{leaves-now, leaves-running, leaves-due}
 use Rattle.rules_moves.specs.declared.Next.{Next}
 use Rattle.rules_moves.specs.declared.Next.the-variants.{Take, Change, Idle, Step, End, Back, Nothing}
-use Rattle.rules_moves.specs.Act.{untrueStep, oneStep, stepMove, eventOf, endMove}
+use Rattle.rules_moves.specs.Act.{untrueStep, oneStep, stepMove}
 use Rattle.rules_moves.specs.Chart.{elementOf, stateOf}
 use Rattle.rules_moves.specs.Means.{Means, Stepping}
 use Rattle.rules_moves.specs.Next.{nextOf, moveBy, move, untrueBy, untrueMove}
 use Rattle.rules_moves.specs.Take.{fireFound, settled, firedBy, taken}
 use Rattle.rules_moves.specs.laws.Firing.{fire-leaves}
-use Rattle.rules_moves.specs.laws.Moving.{change-leaves, idle-leaves, one-step-counts, untrue-few}
+use Rattle.rules_moves.specs.laws.Moving.{change-leaves, idle-leaves, one-step-counts, end-leaves, untrue-few}
 use Rattle.rules_moves.specs.laws.Next.{next-means, step-below}
 use Rattle.rules_moves.specs.laws.Taking.{settled-leaves, fire-found-leaves}
 use Rattle.rules_calls.specs.Calls.{dueAt, expired, expire, advanced, give, arrived}
@@ -38,7 +37,7 @@ use Rattle.laws_log.specs.laws.Moves.{runs-within, formed-after}
 
 -- every part but this count
 abbrev others : Part → Bool
-others p = not (just untrues p)
+others = allBut untrues
 
 module _ (T : List ℕ) (S : Shape) (k : Lawful T S) where
   fire-found-same : (s : List ℕ) (q : Sought) (birth t : ℕ) → untrue (fireFound T S q birth t s) ≡ untrue s
@@ -61,14 +60,12 @@ module _ (T : List ℕ) (S : Shape) (k : Lawful T S) where
         put-same (oneStep T S (stepFrame S j) (t - r .birth) s) (stepped r) ∙ one-step-counts T S k j (t - r .birth) s (step-below T S r s (k .is-good) j st) (f .parts .long)
 
     by-next : (n : Next) → Means T S (runningOf s) s n → untrue (moveBy T S t n s) ≡ counted (untrueBy T S t n s) (untrue s)
-    unfolding moveBy untrueBy counted endMove
+    unfolding moveBy untrueBy counted
     by-next (Take i) m = taken-same i (m .1 .inside)
     by-next (Change j) m = change-leaves T S k others refl refl (elementOf s) (runningOf s) j s (runs-within T S s f (λ z. omega (arith, m .0))) .untrue-same refl
     by-next Idle m = idle-leaves T S k others refl s .untrue-same refl
     by-next (Step j) m = step-counts j m
-    by-next (End j) m =
-        let r = runningOf s in
-        put-same (fireFound T S (eventOf T S j) (r .birth) t s) (entered (actionNumber T S (stateOf s) (r .action + 1)) r) ∙ fire-found-same s (eventOf T S j) (r .birth) t
+    by-next (End j) m = end-leaves T S k others refl refl refl refl t (stateOf s) (runningOf s) j s .untrue-same refl
     by-next Back m = put-same s (charting (runningOf s))
     by-next Nothing m = refl
 

@@ -1,5 +1,6 @@
 -- `start` meets its contract: a START that finds the delay due leaves it.
 use mathlib.Core.Path.{refl}
+use native.Mathlib.Omega.{arith}
 use borrow.Author.Needs.{needs}
 use Rattle.moves_take.proofs.start.Statement.{statement}
 use Rattle.moves_take.proofs.Turns.{start-first, start-later}
@@ -21,7 +22,7 @@ same-length : tie.Need-same-length
 same-length c = search needs
 
 returns : tie.Need-returns
-returns c = start-first _ _ _ _ _ _ (c .before .before .before .before .before .before .before .due-flag .ensures) (c .before .before .before .before .before .before .if1 .taken) (c .before .before .before .before .dt-of .ensures .is) (c .before .before .put-due .ensures)
+returns c = start-first _ _ _ _ _ _ (c .before .before .before .before .before .before .before .due-flag .ensures) (omega (arith, c .before .before .before .before .before .before .if1 .taken)) (c .before .before .before .before .dt-of .ensures .is) (c .before .before .put-due .ensures)
 
 same-length-2 : tie.Need-same-length-2
 same-length-2 c = search needs

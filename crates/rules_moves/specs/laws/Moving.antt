@@ -3,7 +3,7 @@ use mathlib.Core.Path.{_≡_, refl, sym, ap, _∙_}
 use Rattle.rules_walks.specs.laws.Pick.{clash, by-test}
 use mathlib.Core.List.{List}
 use mathlib.Core.Bool.{Bool, true}
-use Prim.Native.Nat.{ℕ, _-_, _≤_, _<_}
+use Prim.Native.Nat.{ℕ, _+_, _-_, _≤_, _<_}
 use native.Mathlib.Omega.{arith}
 use lib.IntN.{pos}
 use lib.ListN.{length}
@@ -15,7 +15,7 @@ use Rattle.rules_tables.specs.Ids.{elements, steps, transitionFrame, stepFrame}
 use Rattle.rules_store.specs.Layout.{need}
 use Rattle.rules_store.specs.Running.{rest, entered}
 use Rattle.rules_store.specs.Word.{counted, putOwner, runningOf, putRunning, untrue, putChartState, value}
-use Rattle.rules_store.specs.Part.{Part, block, untrues, chart as «charts», computed, just, Leaves}
+use Rattle.rules_store.specs.Part.{Part, block, count, untrues, chart as «charts», input, computed, buffered, just, Leaves}
 use Rattle.rules_store.specs.laws.Part.{leaves-then}
 use Rattle.rules_tables.specs.Lawful.{Lawful}
 use Rattle.rules_store.specs.laws.Writer.{leaves-owner, leaves-running, leaves-untrue, leaves-chart, leaves-value}
@@ -25,7 +25,9 @@ use Rattle.rules_moves.specs.declared.Next.{Next}
 use Rattle.rules_moves.specs.declared.Next.the-variants.{Take, Change, Idle, Step, End, Back, Nothing}
 use Rattle.rules_moves.specs.Next.{untrueBy}
 use Rattle.rules_moves.specs.Chart.{change, goIdle}
-use Rattle.rules_moves.specs.Act.{stepOutcome, resultPut, untrueStep, countUntrue, oneStep}
+use Rattle.rules_moves.specs.Act.{stepOutcome, resultPut, untrueStep, countUntrue, oneStep, eventOf, endMove}
+use Rattle.rules_moves.specs.Take.{fireFound}
+use Rattle.rules_moves.specs.laws.Taking.{fire-found-leaves}
 
 module _ (T : List ℕ) (S : Shape) (k : Lawful T S) (f : Part → Bool) where
   pub change-leaves : f block ≡ true → f «charts» ≡ true → (el : ℕ) (r : Running) (j : ℕ) (s : List ℕ) → el < elements S → Leaves T S f s (change T S el r j s)
@@ -59,6 +61,13 @@ module _ (T : List ℕ) (S : Shape) (k : Lawful T S) (f : Part → Bool) where
       let x = resultPut T S (stepFrame S i) age s in
       let u = untrueStep T S (stepFrame S i) age s in
       leaves-then T S f s x (countUntrue u x) (count-leaves y u x) (result-leaves c i age s l)
+
+  pub end-leaves : f block ≡ true → f input ≡ true → f count ≡ true → f buffered ≡ true → (t q : ℕ) (r : Running) (j : ℕ) (s : List ℕ) → Leaves T S f s (endMove T S t q r j s)
+  unfolding endMove
+  end-leaves b i c d t q r j s =
+      let x = fireFound T S (eventOf T S j) (r .birth) t s in
+      let n = entered (actionNumber T S q (r .action + 1)) r in
+      leaves-then T S f s x (putRunning n x) (leaves-running T S f x n b) (fire-found-leaves T S k f i c d (eventOf T S j) (r .birth) t s)
 
 -- ---- the count of untrue steps after one
 pub one-step-counts : (T : List ℕ) (S : Shape) → Lawful T S → (i age : ℕ) (s : List ℕ) → i < steps S → need S ≤ length s

@@ -6,11 +6,11 @@ use Prim.Native.Nat.{ℕ, _+_, _≤_, _<_}
 use native.Mathlib.Omega.{arith}
 use lib.Dec.{eqb}
 use lib.ListN.{length}
-use borrow.Author.Tests.{eqb-true, eqb-false}
+use borrow.Author.Tests.{eqb-true, eqb-false, ne-eqb}
 use Rattle.rules_walks.specs.Pick.{both, either}
 use Rattle.rules_walks.specs.laws.Pick.{either-false, either-true, clash}
 use Rattle.rules_walks.specs.Choose.{choose}
-use Rattle.rules_walks.specs.laws.Choose.{by-choose}
+use Rattle.rules_walks.specs.laws.Choose.{choose-false, by-choose}
 use Rattle.rules_walks.specs.All.{anyTo}
 use Rattle.rules_walks.specs.First.{Sought, one, missing}
 use Rattle.rules_walks.specs.laws.Walk.{upTo-keeps, upTo-carries}
@@ -20,7 +20,7 @@ use Rattle.rules_tables.specs.declared.Shape.{Shape}
 use Rattle.rules_tables.specs.Ids.{elements, inputs, variables, associations, associationFrame, variableFrame}
 use Rattle.rules_store.specs.Layout.{need}
 use Rattle.rules_store.specs.Running.{awake}
-use Rattle.rules_store.specs.Word.{putOwner, putRunning, putDue, birthOf, putInput, value, putValue, buffer}
+use Rattle.rules_store.specs.Word.{putOwner, putRunning, birthOf, putInput, value, putValue, buffer}
 use Rattle.rules_store.specs.laws.Word.{buffer-putInput, buffer-putValue, value-putInput, value-putValue}
 use Rattle.rules_store.specs.Part.{Part, block, count, due, input, sampled as «samples-part», computed, buffered, just, everything, Leaves, SameInput}
 use Rattle.rules_store.specs.laws.Part.{leaves-all, leaves-then}
@@ -37,6 +37,11 @@ use Rattle.rules_moves.specs.Reached.{Reached}
 use Rattle.rules_moves.specs.laws.Firing.{fire-leaves, fire-marked}
 use Rattle.rules_moves.specs.Take.{sample, samples, sampled, passTo, pass, passes, fireFound, isStart, started, startStop, wake, settle, settled, firedBy, taken}
 use Rattle.rules_moves.specs.Associated.{joinsVariable, associated}
+
+-- only an interface's event fires another
+pub fires-nothing : (T : List ℕ) (S : Shape) (i : ℕ) → (flagAt T (inputOwner T S i) ≡ interface → ⊥) → firedBy T S i ≡ missing
+unfolding firedBy
+fires-nothing T S i n = choose-false _ _ _ (ne-eqb _ _ n)
 
 module _ (T : List ℕ) (S : Shape) (k : Lawful T S) where
   -- ---- what it leaves
@@ -89,8 +94,7 @@ module _ (T : List ℕ) (S : Shape) (k : Lawful T S) where
     pub start-stop-leaves : f due ≡ true → (el i t : ℕ) (s : List ℕ) → el < elements S → Leaves T S f s (startStop T S el i t s)
     unfolding startStop
     start-stop-leaves e el i t s l =
-        by-choose (Leaves T S f s) (isStart T S el i) (started T S el t s) (putDue el 0 0 s)
-        (λ _. started-leaves e el t s l) (λ _. leaves-due T S f s el 0 0 l e)
+        by-choose (Leaves T S f s) (isStart T S el i) _ _ (λ _. started-leaves e el t s l) (λ _. leaves-due T S f s el _ _ l e)
 
     pub wake-leaves : f block ≡ true → (el i birth : ℕ) (s : List ℕ) → Leaves T S f s (wake el i birth s)
     unfolding wake

@@ -6,45 +6,37 @@ use mathlib.Core.Bool.{Bool, true, false}
 use Prim.Native.Nat.{ℕ, _+_, _-_, _≤_, _<_}
 use native.Mathlib.Omega.{arith}
 use lib.Dec.{eqb}
-use lib.IntN.{pos}
 use lib.ListN.{length}
 use borrow.Author.Tests.{eq-eqb, ne-eqb, eqb-true, eqb-false}
 use Rattle.rules_walks.specs.laws.Pick.{clash}
-use Rattle.rules_walks.specs.Choose.{choose}
 use Rattle.rules_walks.specs.laws.Choose.{choose-true, choose-false, by-choose}
-use Rattle.rules_walks.specs.First.{Sought, one, missing}
-use Rattle.rules_tables.specs.Kind.{basic, interface, delay, input, output, internal, ofInput}
+use Rattle.rules_walks.specs.First.{one}
+use Rattle.rules_tables.specs.Kind.{input, output, internal}
 use Rattle.rules_tables.specs.Frame.{flagAt, fieldAt}
 use Rattle.rules_tables.specs.declared.Shape.{Shape}
-use Rattle.rules_tables.specs.Ids.{elements, inputs, variables, associations, steps, associationFrame, variableFrame, transitionFrame, stepFrame}
+use Rattle.rules_tables.specs.Ids.{elements, variables, steps, variableFrame, transitionFrame}
 use Rattle.rules_tables.specs.Lawful.{Lawful}
 use Rattle.rules_tables.specs.Actions.{actionNumber}
 use Rattle.rules_store.specs.declared.Running.{Running}
 use Rattle.rules_store.specs.Layout.{need}
 use Rattle.rules_store.specs.Running.{entered}
-use Rattle.rules_store.specs.Word.{chartState, putChartState, value, putValue, buffer, birthOf, putRunning}
+use Rattle.rules_store.specs.Word.{chartState, putChartState, value, putValue, putRunning}
 use Rattle.rules_store.specs.laws.Own.{chart-put, chart-other, value-put}
 use Rattle.rules_store.specs.laws.Word.{value-putValue}
-use Rattle.rules_store.specs.Part.{Part, block, count, untrues, chart, due, sampled as «samples-part», computed, buffered, just, also, everything, Leaves}
+use Rattle.rules_store.specs.Part.{Part, block, count, untrues, chart, sampled as «samples-part», computed, buffered, just, also, Leaves}
 use Rattle.rules_store.specs.Part.{input as «inputs-part»}
-use Rattle.rules_store.specs.laws.Part.{leaves-all, leaves-then}
+use Rattle.rules_store.specs.laws.Part.{leaves-then}
 use Rattle.rules_store.specs.laws.Writer.{leaves-running, leaves-value as «Writer·leaves-value»}
-use Rattle.rules_moves.specs.Partner.{inputOwner, variableOwner, partnerVariable}
-use Rattle.rules_moves.specs.laws.Partner.{partner-output}
-use Rattle.rules_moves.specs.Carry.{voice, speaks}
-use Rattle.rules_moves.specs.Associated.{associated}
+use Rattle.rules_moves.specs.Partner.{variableOwner}
 use Rattle.rules_moves.specs.Chart.{change, goIdle}
-use Rattle.rules_moves.specs.Act.{countUntrue, eventOf, endMove}
-use Rattle.rules_moves.specs.Take.{sampled, passes, startStop, wake, settle, settled, firedBy, fireFound, taken}
-use Rattle.rules_moves.specs.laws.Taking.{sampled-value, sampled-leaves, passes-leaves, start-stop-leaves, wake-leaves, settled-leaves, fire-found-leaves}
-use Rattle.rules_moves.specs.laws.Moving.{change-leaves, idle-leaves, count-leaves}
+use Rattle.rules_moves.specs.Act.{countUntrue, endMove}
+use Rattle.rules_moves.specs.laws.Moving.{change-leaves, idle-leaves, count-leaves, end-leaves}
 use Rattle.rules_traces.specs.declared.Entry.{Entry}
 use Rattle.rules_traces.specs.Gather.{gather}
 use Rattle.rules_traces.specs.Kinds.{chartKind, internalKind, inputKind, outputKind}
 use Rattle.rules_traces.specs.Entry.{entry}
 use Rattle.rules_traces.specs.Trace.{differing, chartEntry, valueEntry, changes}
-use Rattle.rules_traces.specs.laws.Gather.{gather-empty, gather-one, gather-same}
-use Rattle.rules_traces.specs.laws.Passed.{passed-none}
+use Rattle.rules_traces.specs.laws.Gather.{gather-empty, gather-one}
 
 -- ---- a value that stays has no frame
 pub same-differing : (kind el id : ℕ) {a b : ℕ} → b ≡ a → differing a (entry kind el id b) ≡ []
@@ -124,13 +116,7 @@ module _ (T : List ℕ) (S : Shape) where
     fired = also block (also «inputs-part» (also count (just buffered)))
 
     pub end-changes : (t q : ℕ) (r : Running) (j : ℕ) → changes T S s (endMove T S t q r j s) ≡ []
-    unfolding endMove
-    end-changes t q r j =
-        let x = fireFound T S (eventOf T S j) (r .birth) t s in
-        let n = entered (actionNumber T S q (r .action + 1)) r in
-        no-changes s (putRunning n x) fired
-        (leaves-then T S fired s x (putRunning n x) (leaves-running T S fired x n refl) (fire-found-leaves T S k fired refl refl refl (eventOf T S j) (r .birth) t s))
-        refl refl refl
+    end-changes t q r j = no-changes s (endMove T S t q r j s) fired (end-leaves T S k fired refl refl refl refl t q r j s) refl refl refl
 
     module _ (long : need S ≤ length s) where
       -- ---- move 2: the chart state of the running element
