@@ -1,9 +1,9 @@
 /*
  * A host for a stairwell light: a push button switches the lamps of three floors on, and they go off so many ticks after the last push.
  *
- * It does what every host does: check the table and lend a store (main), let events arrive and time pass (main), run in slices, so that a
- * controller gets to its other work between them (settle), read the records that the network's sinks write (print_records), and look whether
- * results were clipped (settle, main).
+ * It does what every host does: check the table and lend a store (main), let time pass to what is next due or arrives (main), run in
+ * slices, so that a controller gets to its other work between them (settle), read the records that the network's sinks write
+ * (print_records), and look whether results were clipped (settle, main).
  *
  *     cc -std=c99 -Iinclude examples/host.c target/staticlib/libxaluudhiga.a -o host
  */
@@ -80,9 +80,9 @@ static const uint8_t table[] = {
 enum { ELEMENTS = 6, EVENT_INPUTS = 7, VARIABLES = 10, STORE_WORDS = XAL_NEED(ELEMENTS, EVENT_INPUTS, VARIABLES) };
 static uint32_t store[STORE_WORDS];
 
-/* This host reads words of the store (next_due, settle), so it says for which layout it was written. */
-#if XAL_STORE_LAYOUT != 2
-#error "this host reads the store by layout 2"
+/* This host reads words of the store (settle, main), so it says for which layout it was written. */
+#if XAL_STORE_LAYOUT != 3
+#error "this host reads the store by layout 3"
 #endif
 
 /* What a table and a store are in each call. */
@@ -159,19 +159,6 @@ static void settle(void) {
     } while (stop == XAL_STOP_BUDGET || stop == XAL_STOP_ROOM);
 }
 
-/* The next moment at which a delay is due: 1 and the time, or 0 where none is. No advance may pass it (refusal 8). */
-static int next_due(uint32_t *time) {
-    int found = 0;
-    for (int e = 0; e < ELEMENTS; e++) {
-        const uint32_t *element = store + XAL_ELEMENT_AT(e);
-        if (element[XAL_ELEMENT_DUE_FLAG] && (!found || element[XAL_ELEMENT_DUE_TIME] < *time)) {
-            *time = element[XAL_ELEMENT_DUE_TIME];
-            found = 1;
-        }
-    }
-    return found;
-}
-
 /* What a clock and an input card would give: pushes, each with the time for which the lamps are to burn. */
 static const struct {
     uint32_t at;
@@ -192,8 +179,9 @@ int main(void) {
 
     int next = 0;
     while (!refused) {
-        uint32_t due;
-        int waits = next_due(&due);
+        /* Here it would sleep, until the next due time or the next push, whichever comes first. No advance may pass that time (refusal 8). */
+        uint32_t due = store[XAL_WORD_NEXT_DUE];
+        int waits = store[XAL_WORD_DUE];
         if (waits && (next == PUSHES || due <= pushes[next].at)) {
             judge("advance", xal_advance(NETWORK, due)); /* fires the delays that are due */
         } else if (next < PUSHES) {

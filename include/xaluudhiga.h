@@ -117,7 +117,7 @@ enum {
     XAL_REFUSED_SHORT_STORE = 5, /* the store is shorter than its need */
     XAL_REFUSED_STORE = 6,       /* the store is not well formed */
     XAL_REFUSED_TIME = 7,        /* advance to a time before now or above XAL_MAX_TIME */
-    XAL_REFUSED_DUE = 8,         /* advance beyond the due time of a delay: advance to that time first */
+    XAL_REFUSED_DUE = 8,         /* advance beyond the due time of a delay: advance to XAL_WORD_NEXT_DUE first */
     XAL_REFUSED_EVENT = 9,       /* arrival names no event output of a source */
     XAL_REFUSED_BIRTH = 10,      /* arrival born after now */
     XAL_REFUSED_VALUES = 11      /* the number of values differs from the event's associations */
@@ -141,14 +141,14 @@ static inline unsigned xal_frame(uint64_t answer) {
  *
  * XAL_STORE_LAYOUT is the number of this layout. It rises with each version in which a word moves or takes another meaning. So
  *   - a host that reads words says which layout it was written for, and does not compile with another:
- *         #if XAL_STORE_LAYOUT != 2
- *         #error "this host reads the store by layout 2"
+ *         #if XAL_STORE_LAYOUT != 3
+ *         #error "this host reads the store by layout 3"
  *         #endif
  *   - a host that keeps stores longer than it runs, or sends them, writes the number beside each and loads anew where it is another;
  *   - header and library are of one version. A host that is linked with a library of another mostly sees it at its start, by
  *     xal_need(table) != XAL_NEED(its numbers of frames).
  */
-#define XAL_STORE_LAYOUT 2
+#define XAL_STORE_LAYOUT 3
 
 enum {
     XAL_WORD_NOW = 0,
@@ -160,8 +160,10 @@ enum {
     XAL_WORD_ACTION = 6,          /* of the present state, from 1; 0 for none */
     XAL_WORD_STEP = 7,
     XAL_WORD_OVERWRITTEN = 8,     /* events that came to an input that waited already; stops at 4,294,967,295 */
+    XAL_WORD_DUE = 9,             /* 1 where a due flag of some element is set, else 0 */
+    XAL_WORD_NEXT_DUE = 10,       /* the earliest due time of these (see below), or 0; it may be 0 where XAL_WORD_DUE is 1 */
     XAL_WORD_UNTRUE = 11,         /* steps since load whose result was not the true one (see below); stops at 4,294,967,295 */
-    XAL_STORE_HEAD = 16,          /* words before those of the elements; 9, 10 and 12 to 15 are zero */
+    XAL_STORE_HEAD = 16,          /* words before those of the elements; 12 to 15 are zero */
     XAL_ELEMENT_WORDS = 3,
     XAL_ELEMENT_STATE = 0,        /* chart state of a basic element, else 0 */
     XAL_ELEMENT_DUE_FLAG = 1,     /* 1 on a delay that is running, else 0 */
@@ -214,6 +216,20 @@ enum {
     XAL_STOP_ROOM = 3,   /* the next move's record has no room in the output buffer; the move was not made */
     XAL_STOP_TRACE = 4   /* traced runs only: the next move's frames have no room in the trace room; the move was not made */
 };
+
+/* ---- The next due time
+ *
+ * XAL_WORD_DUE and XAL_WORD_NEXT_DUE are right after every call: no host has to look through the elements. Where XAL_WORD_DUE is 0 nothing
+ * happens by itself, and a host sleeps until an event arrives. Where it is 1, a host sleeps until XAL_WORD_NEXT_DUE or an arrival, whichever
+ * comes first. Then it advances to that moment, which the next due time may be and must not be past (XAL_REFUSED_DUE), and runs:
+ *         until = store[XAL_WORD_DUE] ? store[XAL_WORD_NEXT_DUE] : forever;
+ *         now = sleep_until(until);                     // or until something arrives, and tells the time, which is at most `until`
+ *         xal_advance(.., now); xal_arrival(..) for what arrived; xal_run(..) until it stops with XAL_STOP_IDLE
+ * A time above XAL_MAX_TIME is stored there too, and is never reached. A host that woke late advances to XAL_WORD_NEXT_DUE, runs, and looks
+ * again, until it is at its own time: then nothing fires late or is left out.
+ *
+ * The two words belong to the due words of the elements. A store in which they say something else is not well formed (XAL_REFUSED_STORE).
+ */
 
 /* ---- Untrue steps
  *

@@ -427,7 +427,7 @@ void hand_decode(const uint8_t *table, size_t table_bytes, struct hand_machine *
 
 // ---- the store, in the words of document 01
 
-enum { NOW, RUNNING, CURRENT, BIRTH, MODE, LIVE, ACTION_NUMBER, STEP_NUMBER, OVERWRITTEN, SPARE, UNTRUE = 11, HEAD = 16 };
+enum { NOW, RUNNING, CURRENT, BIRTH, MODE, LIVE, ACTION_NUMBER, STEP_NUMBER, OVERWRITTEN, DUE, NEXT_DUE, UNTRUE, SPARE, HEAD = 16 };
 enum { IDLE, CHARTS, ACTS };
 
 static int running_ok(const struct hand_machine *m, const uint32_t *store) {
@@ -447,13 +447,23 @@ static int running_ok(const struct hand_machine *m, const uint32_t *store) {
     return store[STEP_NUMBER] <= m->action[state->first_action + action - 1].steps;
 }
 
+// The earliest due time into two words: whether a due flag is set, and the time or 0.
+static void earliest(const uint32_t *element, unsigned elements, uint32_t *next) {
+    next[0] = next[1] = 0;
+    for (; elements > 0; elements--, element += 3)
+        if (element[1] && (!next[0] || element[2] < next[1])) next[0] = 1, next[1] = element[2];
+}
+
 unsigned hand_store_check(const struct hand_machine *m, const uint32_t *store, size_t store_words) {
     const uint32_t *w;
+    uint32_t next[2];
     if (store_words < HEAD + 3 * m->elements + 3 * m->inputs + 2 * m->variables) return 5;
     if (store[NOW] > 2147483647u) return 6;
     for (int i = SPARE; i < HEAD; i++)
-        if (i != UNTRUE && store[i] != 0) return 6;
+        if (store[i] != 0) return 6;
     w = store + HEAD;
+    earliest(w, m->elements, next);
+    if (store[DUE] != next[0] || store[NEXT_DUE] != next[1]) return 6;
     for (unsigned i = 0; i < m->elements; i++, w += 3) {
         if (m->sort[i] == BASIC ? w[0] >= m->states || m->state[w[0]].element != i : w[0] != 0) return 6;
         if (w[1] > 1) return 6;
@@ -476,6 +486,7 @@ struct run {
     const struct hand_machine *m;
     uint32_t now, running, current, birth, mode, live, action, step, overwritten;
     uint32_t *elements, *inputs, *values; // three, three and two words each
+    uint32_t *next;                       // the two words of the next due time
     uint8_t *output;                      // where the next record goes
     uint32_t untrue;                      // steps of this run
 };
@@ -588,10 +599,15 @@ static void take(struct run *r, unsigned taken) {
     case DELAY: {
         const int32_t dt = (int32_t)r->values[2 * m->timer[in->element]];
         uint32_t *due = r->elements + 3 * in->element + 1;
-        const int starts = taken == m->start[in->element];
-        if (starts && due[0]) break; // it counts from the first START
-        due[0] = starts;
-        due[1] = starts ? r->now + (uint32_t)(dt < 0 ? 0 : dt) : 0;
+        if (taken != m->start[in->element]) {
+            const int first = due[0] && due[1] == r->next[1];
+            due[0] = due[1] = 0;
+            if (first) earliest(r->elements, m->elements, r->next);
+        } else if (!due[0]) { // it counts from the first START
+            due[0] = 1;
+            due[1] = r->now + (uint32_t)(dt < 0 ? 0 : dt);
+            if (!r->next[0] || due[1] < r->next[1]) r->next[0] = 1, r->next[1] = due[1];
+        }
         break;
     }
     case SINK:
@@ -662,6 +678,7 @@ struct hand_told hand_run(const struct hand_machine *m, uint32_t *store, uint32_
     r.elements = store + HEAD;
     r.inputs = r.elements + 3 * m->elements;
     r.values = r.inputs + 3 * m->inputs;
+    r.next = store + DUE;
     r.output = output;
     r.untrue = 0;
 

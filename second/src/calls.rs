@@ -101,8 +101,8 @@ impl Checked {
         match store::read(model, store) {
             Some(state) => Ok(Machine { model, state, watch }),
             None => {
-                if let Some(place) = store::lone_fault(model, store) {
-                    watch.see(Sight::NotZero(place));
+                if let Some(fault) = store::lone_fault(model, store) {
+                    watch.see(Sight::NotWellFormed(fault));
                 }
                 Err(Refusal::plain(6))
             }
@@ -117,7 +117,9 @@ impl Checked {
         body: impl FnOnce(&mut Machine<W>) -> Result<Answer, Refusal>,
     ) -> Answer {
         let made = self.machine(store, watch).and_then(|mut machine| {
+            machine.watch.see(Sight::Found(machine.state.next_due()));
             let told = body(&mut machine)?;
+            machine.watch.see(Sight::Left(machine.state.next_due()));
             store::write(machine.model, &machine.state, store);
             Ok(told)
         });
@@ -224,13 +226,16 @@ fn judge_time(state: &State, to: u32) -> Result<(), Refusal> {
 /// order of their elements; since all have one birth and carry nothing, no
 /// other order gives another store.
 fn expire<W: Watch>(machine: &mut Machine<W>, time: u32) {
+    let mut fired = 0;
     for element in 0..machine.model.elements.len() {
         if machine.state.due[element] == Some(time) {
+            fired += 1;
             machine.state.due[element] = None;
             machine.watch.see(Sight::Expired(machine.cleared(element)));
             machine.fire(machine.model.elements[element].event_outputs[0], time);
         }
     }
+    machine.watch.see(Sight::Advanced { fired, next: machine.state.next_due() });
 }
 
 /// Refusal 9: "arrival names no event output of a source".

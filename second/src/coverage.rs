@@ -6,8 +6,9 @@ use crate::arithmetic::Outcome;
 use crate::calls::{stop, Held};
 use crate::delays::{DelayCoverage, StartCoverage};
 use crate::model::ElementKind;
+use crate::next_due::{NextDueCoverage, ToldNextDue, WrongDue};
 use crate::reader::{Ending, Fault};
-use crate::store::word;
+use crate::store::{word, LoneFault};
 use crate::table::{kind, operation};
 use crate::trace::trace_kind;
 use crate::watch::{Sight, Watch};
@@ -42,12 +43,14 @@ pub struct Coverage {
     pub records: u64,
     pub starts: StartCoverage,
     pub delays: DelayCoverage,
+    pub next_due: ToldNextDue,
 }
 
 impl Watch for Coverage {
     fn see(&mut self, sight: Sight) {
         self.starts.see(sight);
         self.delays.see(sight);
+        self.next_due.see(sight);
         match sight {
             Sight::Element(kind) => self.element_kinds[place_of(kind)] += 1,
             Sight::Step { operation, .. } => self.operations[usize::from(operation)] += 1,
@@ -65,9 +68,11 @@ impl Watch for Coverage {
             Sight::Refused { number, kind } => self.see_refusal(number, kind),
             // Counted with their delays.
             Sight::Loaded | Sight::Started { .. } | Sight::StartIgnored { .. } => {}
+            Sight::StopTaken { .. } | Sight::Advanced { .. } => {}
+            Sight::Found(_) | Sight::Left(_) => {}
             // No answer of the step program tells any of these.
             Sight::Traced(_) | Sight::Held(_) | Sight::Read(_) => {}
-            Sight::Counted { .. } | Sight::NotZero(_) => {}
+            Sight::Counted { .. } | Sight::NotWellFormed(_) => {}
         }
     }
 }
@@ -125,7 +130,8 @@ impl Coverage {
             cells.extend(self.refused_kind_cells(place, row));
         }
         cells.extend(named("seen", SEEN, self.seen()));
-        cells.into_iter().chain(self.starts.cells()).chain(self.delays.cells())
+        let delays = self.starts.cells().chain(self.delays.cells());
+        cells.into_iter().chain(delays).chain(self.next_due.told.cells())
     }
 
     /// Refusals 5 and 6 cannot come from a session: the store of 2,000 words
@@ -195,6 +201,15 @@ impl Cell {
     pub(crate) fn new(row: &'static str, label: &str, count: u64) -> Cell {
         Cell { row, label: label.to_string(), count, reachable: true }
     }
+}
+
+/// A row of a table, with its labels in the order of the counts.
+pub(crate) fn row<'c>(
+    row: &'static str,
+    labels: &'static [&'static str],
+    counts: &'c [u64],
+) -> impl Iterator<Item = Cell> + 'c {
+    labels.iter().zip(counts).map(move |(label, &count)| Cell::new(row, label, count))
 }
 
 /// What can be reached and was not.
@@ -381,7 +396,8 @@ impl Display for ResultCoverage {
     }
 }
 
-/// What calls found in words 9 to 15 of a store, and what runs left in word 11.
+/// What calls found in words 9, 10 and 12 to 15 of a store, and what runs left in
+/// word 11.
 #[derive(Clone, Default, Debug)]
 pub struct StoreCoverage {
     /// Of runs and of traced runs, in the order of [`COUNTED`].
@@ -389,6 +405,9 @@ pub struct StoreCoverage {
     /// Stores not well formed by one word alone, in the order of
     /// [`word::ZEROS`].
     pub not_zero: [u64; word::ZEROS.len()],
+    /// Stores not well formed by the next due time alone, in the order of
+    /// [`WrongDue::ALL`].
+    pub wrong_due: [u64; WrongDue::ALL.len()],
 }
 
 /// What becomes of the count of untrue steps: a run has none, and the count is
@@ -410,7 +429,12 @@ impl Watch for StoreCoverage {
                 };
                 self.counted[usize::from(traced)][place] += 1;
             }
-            Sight::NotZero(place) => count_in(&mut self.not_zero, &word::ZEROS, place),
+            Sight::NotWellFormed(LoneFault::NotZero(place)) => {
+                count_in(&mut self.not_zero, &word::ZEROS, place);
+            }
+            Sight::NotWellFormed(LoneFault::NextDue(wrong)) if wrong != WrongDue::Otherwise => {
+                count_in(&mut self.wrong_due, &WrongDue::ALL, wrong);
+            }
             _ => {}
         }
     }
@@ -430,7 +454,10 @@ impl StoreCoverage {
         let not_zero = word::ZEROS.iter().zip(self.not_zero);
         let row = "refusal 6 by word";
         let not_zero = not_zero.map(move |(word, count)| Cell::new(row, &word.to_string(), count));
-        counted.chain(not_zero)
+        let wrong_due = WrongDue::ALL.iter().zip(self.wrong_due);
+        let row = "refusal 6 by next due";
+        let wrong_due = wrong_due.map(move |(w, count)| Cell::new(row, &format!("{w:?}"), count));
+        counted.chain(not_zero).chain(wrong_due)
     }
 }
 
@@ -450,6 +477,7 @@ pub struct CallCoverage {
     pub results: ResultCoverage,
     pub stores: StoreCoverage,
     pub starts: StartCoverage,
+    pub next_due: NextDueCoverage,
 }
 
 impl Watch for CallCoverage {
@@ -458,18 +486,21 @@ impl Watch for CallCoverage {
         self.results.see(sight);
         self.stores.see(sight);
         self.starts.see(sight);
+        self.next_due.see(sight);
     }
 }
 
 impl CallCoverage {
     pub fn missed(&self) -> Vec<String> {
         let (traces, results) = (self.traces.missed(), self.results.missed());
-        [traces, results, self.stores.missed(), self.starts.missed()].concat()
+        let (stores, starts) = (self.stores.missed(), self.starts.missed());
+        [traces, results, stores, starts, self.next_due.missed()].concat()
     }
 }
 
 impl Display for CallCoverage {
     fn fmt(&self, f: &mut Formatter<'_>) -> fmt::Result {
-        write!(f, "{}\n{}\n{}\n{}", self.traces, self.results, self.stores, self.starts)
+        writeln!(f, "{}\n{}\n{}\n{}", self.traces, self.results, self.stores, self.starts)?;
+        write!(f, "{}", self.next_due)
     }
 }

@@ -1,7 +1,7 @@
 //! What became of the STARTs of delays. Some of it one store tells, the rest
 //! hangs on what happened to the delay before, since the table was loaded.
 
-use crate::coverage::{missed, write_cells, Cell};
+use crate::coverage::{missed, row, write_cells, Cell};
 use crate::watch::{Cleared, Sight, Watch};
 use std::collections::BTreeMap;
 use std::fmt::{self, Display, Formatter};
@@ -62,14 +62,6 @@ impl Display for StartCoverage {
     }
 }
 
-fn row<'c>(
-    row: &'static str,
-    labels: &'static [&'static str],
-    counts: &'c [u64],
-) -> impl Iterator<Item = Cell> + 'c {
-    labels.iter().zip(counts).map(move |(label, &count)| Cell::new(row, label, count))
-}
-
 // ---------------------------------------------------------------- histories
 
 /// The STARTs and outputs of delays, by what happened to them before. It is
@@ -125,7 +117,7 @@ impl Watch for DelayCoverage {
     fn see(&mut self, sight: Sight) {
         match sight {
             Sight::Loaded => self.pasts.clear(),
-            Sight::Started { delay, now } => self.see_start(delay, now),
+            Sight::Started { delay, now, .. } => self.see_start(delay, now),
             Sight::StartIgnored { delay, now, due, instead, .. } if due != instead => {
                 self.see_ignored(delay, now, instead > due);
             }

@@ -20,6 +20,7 @@ pub mod host;
 pub mod lines;
 pub mod machine;
 pub mod model;
+pub mod next_due;
 pub mod reader;
 pub mod renumber;
 pub mod rules;

@@ -191,17 +191,21 @@ impl<W: Watch> Machine<'_, W> {
     fn start(&mut self, delay: usize, dt: usize, renews: bool) {
         let now = self.state.now;
         let dt = self.state.values[dt].max(0).unsigned_abs();
+        let (sum, next) = (now + dt, self.state.next_due());
         if let Some(due) = self.state.due[delay] {
-            self.watch.see(Sight::StartIgnored { delay, now, due, instead: now + dt, renews });
+            let (instead, next) = (sum, next.unwrap_or(due));
+            self.watch.see(Sight::StartIgnored { delay, now, due, instead, renews, next });
             return;
         }
-        self.watch.see(Sight::Started { delay, now });
-        self.state.due[delay] = Some(now + dt);
+        self.watch.see(Sight::Started { delay, now, due: sum, next });
+        self.state.due[delay] = Some(sum);
     }
 
     /// "STOP clears it."
     fn stop(&mut self, delay: usize) {
-        if self.state.due[delay].take().is_some() {
+        let due = self.state.due[delay].take();
+        self.watch.see(Sight::StopTaken { due, next: self.state.next_due() });
+        if due.is_some() {
             self.watch.see(Sight::StoppedInTime(self.cleared(delay)));
         }
     }

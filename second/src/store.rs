@@ -3,6 +3,7 @@
 //! can hold makes it refused.
 
 use crate::model::{ElementKind, Model, Role};
+use crate::next_due::WrongDue;
 use std::ops::Range;
 
 /// "Times are whole ticks, read unsigned, 0 to 2,147,483,647."
@@ -21,13 +22,22 @@ pub mod word {
     pub const ACTION: usize = 6;
     pub const STEP: usize = 7;
     pub const OVERWRITTEN: usize = 8;
+    /// "word 9 tells whether a due flag is set, word 10 the earliest time or 0."
+    ///
+    /// Open point: how word 9 tells it. By 1 or 0, as flags do. It is needed
+    /// beside word 10: a delay may be due at 0.
+    ///
+    /// Open point: which times count. Those of all due flags, of whatever kind of
+    /// element, also above the largest time, where no advance gets.
+    pub const DUE: usize = 9;
+    pub const NEXT_DUE: usize = 10;
     /// "Word 11 counts untrue steps since load and stops at 4,294,967,295."
     ///
     /// Open point: what a well formed store has there. Any word, as in word 8:
     /// a store does not tell how many steps were made since load.
     pub const UNTRUE: usize = 11;
-    /// "Words 9 to 15 zero", but for word 11.
-    pub const ZEROS: [usize; 6] = [9, 10, 12, 13, 14, 15];
+    /// "Words 9 to 15 zero", but for words 9, 10 and 11.
+    pub const ZEROS: [usize; 4] = [12, 13, 14, 15];
     pub const FIRST_PART: usize = 16;
 }
 
@@ -53,6 +63,23 @@ pub struct State {
     pub values: Vec<i32>,
     /// Per variable; 0 unless an input.
     pub buffers: Vec<i32>,
+}
+
+impl State {
+    /// The earliest due time, if a due flag is set.
+    pub fn next_due(&self) -> Option<u32> {
+        next_due(&self.due)
+    }
+}
+
+/// "the one found by looking".
+pub(crate) fn next_due(due: &[Option<u32>]) -> Option<u32> {
+    due.iter().flatten().copied().min()
+}
+
+/// Words 9 and 10 of a store with these due times.
+fn due_words(due: &[Option<u32>]) -> [u32; 2] {
+    next_due(due).map_or([0, 0], |time| [1, time])
 }
 
 #[derive(Clone, Copy, PartialEq, Eq, Debug)]
@@ -151,6 +178,11 @@ pub fn read(model: &Model, store: &[u32]) -> Option<State> {
         return None;
     }
     let (chart_states, due) = read_elements(model, &store[layout.elements], now)?;
+    // "a store in which it is wrong is not well formed", also one from before it
+    // was kept, with zeros there and a due flag.
+    if store[word::DUE..=word::NEXT_DUE] != due_words(&due) {
+        return None;
+    }
     let waiting = read_waiting(&store[layout.event_inputs], now)?;
     let (values, buffers) = read_variables(model, &store[layout.variables])?;
     let mode = read_mode(model, store, &chart_states)?;
@@ -167,14 +199,29 @@ pub fn read(model: &Model, store: &[u32]) -> Option<State> {
     })
 }
 
-/// Of a store that is not well formed, the zero word that alone is at fault.
-pub fn lone_fault(model: &Model, store: &[u32]) -> Option<usize> {
-    let mends = |place: &usize| {
+/// The words that alone make a store not well formed.
+#[derive(Clone, Copy, PartialEq, Eq, Debug)]
+pub enum LoneFault {
+    /// One of [`word::ZEROS`].
+    NotZero(usize),
+    /// Words 9 and 10, or one of them.
+    NextDue(WrongDue),
+}
+
+/// Of a store that is not well formed, the words that alone are at fault, if
+/// these are of words 9, 10 and 12 to 15.
+pub fn lone_fault(model: &Model, store: &[u32]) -> Option<LoneFault> {
+    let mends = |place: usize, words: &[u32]| {
         let mut mended = store.to_vec();
-        mended[*place] = 0;
+        mended[place..place + words.len()].copy_from_slice(words);
         read(model, &mended).is_some()
     };
-    word::ZEROS.into_iter().find(mends)
+    if let Some(place) = word::ZEROS.into_iter().find(|&place| mends(place, &[0])) {
+        return Some(LoneFault::NotZero(place));
+    }
+    let (_, due) = read_elements(model, &store[Layout::of(model).elements], store[word::NOW])?;
+    let wrong = WrongDue::of(store[word::DUE], store[word::NEXT_DUE], &due);
+    mends(word::DUE, &due_words(&due)).then_some(LoneFault::NextDue(wrong))
 }
 
 fn has_other_than_zero(words: &[u32]) -> bool {
@@ -321,6 +368,7 @@ fn head(state: &State) -> [u32; word::FIRST_PART] {
     let mut words = [0; word::FIRST_PART];
     words[word::NOW] = state.now;
     words[word::OVERWRITTEN] = state.overwritten;
+    words[word::DUE..=word::NEXT_DUE].copy_from_slice(&due_words(&state.due));
     words[word::UNTRUE] = state.untrue;
     let current = match state.mode {
         Mode::Idle => return words,

@@ -5,6 +5,7 @@ use crate::arithmetic::Outcome;
 use crate::calls::Held;
 use crate::model::ElementKind;
 use crate::reader::Ending;
+use crate::store::LoneFault;
 
 /// One thing that happened when running.
 #[derive(Clone, Copy, PartialEq, Eq, Debug)]
@@ -21,15 +22,26 @@ pub enum Sight {
     Chained,
     /// The step program loaded a table: no delay is due.
     Loaded,
-    /// START made a delay due.
-    Started { delay: usize, now: u32 },
+    /// START made a delay due at this time; before that the next due time was
+    /// that of others.
+    Started { delay: usize, now: u32, due: u32, next: Option<u32> },
     /// START was taken while the delay was due: that time stays, and not the one
-    /// that DT would give. It renews DT if the value sampled is another.
-    StartIgnored { delay: usize, now: u32, due: u32, instead: u32, renews: bool },
+    /// that DT would give. It renews DT if the value sampled is another. The next
+    /// due time may be another delay's.
+    StartIgnored { delay: usize, now: u32, due: u32, instead: u32, renews: bool, next: u32 },
+    /// STOP was taken while the delay was due at this time or not due; after that
+    /// the next due time is that of others.
+    StopTaken { due: Option<u32>, next: Option<u32> },
     /// STOP was taken while the delay was due.
     StoppedInTime(Cleared),
     /// A delay fired on advance.
     Expired(Cleared),
+    /// An advance fired so many delays and left this next due time.
+    Advanced { fired: usize, next: Option<u32> },
+    /// A call found a store well formed, with this next due time.
+    Found(Option<u32>),
+    /// A call that was not refused left this next due time.
+    Left(Option<u32>),
     /// A record was written.
     Record,
     /// A run ended with this many moves and this stop number.
@@ -46,8 +58,8 @@ pub enum Sight {
     Read(Ending),
     /// A run with so many untrue steps found and left these counts of them.
     Counted { traced: bool, untrue: u32, before: u32, after: u32 },
-    /// A store was not well formed because of this word alone, which must be 0.
-    NotZero(usize),
+    /// A store was not well formed because of these words alone.
+    NotWellFormed(LoneFault),
 }
 
 /// A delay that is due no more.

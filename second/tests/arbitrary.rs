@@ -11,6 +11,7 @@ use second::gen::rng::Rng;
 use second::gen::session;
 use second::host::{reply, reply_watched, Call, Reply, Request};
 use second::lines::{lines_of, part, table_of_lines};
+use second::next_due::NextDueCoverage;
 use second::reader::{Ending, Fault};
 use second::watch::{Sight, Watch};
 use second::{check, store, Checked, Model};
@@ -141,10 +142,13 @@ fn five_thousand_calls_reach_all_that_can_be_seen() {
     }
     assert_eq!(reached.missed(), Vec::<String>::new());
     // 11 kinds, 4 ways to be held, 6 endings and 24 faults; 5 things that become
-    // of the count of a run, traced or not, and 6 words; 6 STARTs.
+    // of the count of a run, traced or not, 4 words and 11 wrong next due times; 6
+    // STARTs; what 6 STARTs, 6 STOPs and 6 advances do to the next due time, and 4
+    // that calls find and leave.
     assert_eq!(TraceCoverage::default().missed().len(), 11 + 4 + 6 + 24);
-    assert_eq!(StoreCoverage::default().missed().len(), 2 * 5 + 6);
+    assert_eq!(StoreCoverage::default().missed().len(), 2 * 5 + 4 + 11);
     assert_eq!(StartCoverage::default().missed().len(), 6);
+    assert_eq!(NextDueCoverage::default().missed().len(), 6 + 6 + 6 + 4 + 4);
 }
 
 // ---------------------------------------------------------------- traces

@@ -24,8 +24,9 @@ fn an_empty_coverage_misses_every_number_that_can_be_reached() {
     let missed = Coverage::default().missed();
     // 10 refusals, 3 stops, 5 kinds, 9 operations, 5 guards, 12 + 11 + 5 kinds
     // of refused frames, 6 sights more, 6 STARTs and 3 + 7 + 7 + 2 of the
-    // histories of delays.
-    assert_eq!(missed.len(), 10 + 3 + 5 + 9 + 5 + 12 + 11 + 5 + 6 + 6 + 3 + 7 + 7 + 2);
+    // histories of delays, 3 * 6 + 2 * 4 of the next due time.
+    let delays = 6 + 3 + 7 + 7 + 2 + 3 * 6 + 2 * 4;
+    assert_eq!(missed.len(), 10 + 3 + 5 + 9 + 5 + 12 + 11 + 5 + 6 + delays);
     assert!(!missed.contains(&"refusal 5".to_string()));
     // Clipped to either end, true at either end, divided by zero; five of them
     // seldom.

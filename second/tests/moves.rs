@@ -381,6 +381,7 @@ fn advance_is_refused_7_before_8() {
     made(advance(&table, &mut store, 50));
     store[16 + 3 * 3 + 1] = 1;
     store[16 + 3 * 3 + 2] = 60;
+    store[9..11].copy_from_slice(&[1, 60]);
     let before = store.clone();
     for (to, number) in
         [(49, 7), (0, 7), (61, 8), (0x7FFF_FFFF, 8), (0x8000_0000, 7), (u32::MAX, 7)]

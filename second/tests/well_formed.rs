@@ -2,8 +2,11 @@
 //! refused 6.
 
 mod common;
-use common::{loaded, refused, table, FULL, FULL_ELEMENTS, FULL_EVENTS, FULL_NEED, FULL_VARIABLES};
-use second::{advance, arrival, load, run, Answer};
+use common::{
+    delays, loaded, refused, table, FULL, FULL_ELEMENTS, FULL_EVENTS, FULL_NEED, FULL_VARIABLES,
+};
+use second::store::need;
+use second::{advance, arrival, check, load, run, Answer};
 
 const NOW: (usize, u32) = (0, 100);
 /// Element 1 (basic, states 0 and 1) runs event input 0, born at 60.
@@ -82,8 +85,8 @@ fn now_is_in_range() {
 }
 
 #[test]
-fn words_9_10_and_12_to_15_are_zero_and_words_8_and_11_are_free() {
-    for place in [9, 10, 12, 13, 14, 15] {
+fn words_12_to_15_are_zero_and_words_8_and_11_are_free() {
+    for place in [12, 13, 14, 15] {
         refuses_each(&[], &[(place, 1), (place, u32::MAX)]);
         assert!(!accepts(&[(11, 7)], &[(place, 1)]));
     }
@@ -160,15 +163,84 @@ fn a_chart_state_is_the_basic_elements_own_else_0() {
 #[test]
 fn a_due_flag_is_only_on_a_delay_and_due_not_before_now() {
     let (flag, time) = (element(3) + 1, element(3) + 2);
-    accepts_each(&[NOW, (flag, 1)], &[(time, 100), (time, 4_294_967_294)]);
-    refuses_each(&[NOW, (flag, 1)], &[(time, 0), (time, 99), (time, u32::MAX)]);
-    refuses_each(&[NOW], &[(time, 100)]);
-    refuses_each(&[NOW, (time, 100)], &[(flag, 2), (flag, u32::MAX)]);
-    for other in [0, 1, 2, 4, 5] {
-        let time = (element(other) + 2, 100);
-        assert!(!accepts(&[NOW], &[(element(other) + 1, 1), time]));
-        refuses_each(&[NOW], &[time]);
+    for word in [100, 4_294_967_294] {
+        assert!(accepts(&[NOW, (flag, 1)], &[(time, word), (9, 1), (10, word)]));
     }
+    for word in [0, 99, u32::MAX] {
+        assert!(!accepts(&[NOW, (flag, 1)], &[(time, word), (9, 1), (10, word)]));
+    }
+    // Whatever words 9 and 10 say of it.
+    for words in [[(9, 0), (10, 0)], [(9, 1), (10, 100)]] {
+        assert!(!accepts(&[NOW, (time, 100)], &words));
+        for word in [2, u32::MAX] {
+            assert!(!accepts(&[NOW, (time, 100), (flag, word)], &words));
+        }
+        for other in [0, 1, 2, 4, 5] {
+            let time = (element(other) + 2, 100);
+            assert!(!accepts(&[NOW, (element(other) + 1, 1), time], &words));
+            assert!(!accepts(&[NOW, time], &words));
+        }
+    }
+}
+
+/// FULL's delay is due at 150.
+const DUE: [(usize, u32); 3] = [NOW, (element(3) + 1, 1), (element(3) + 2, 150)];
+
+#[test]
+fn words_9_and_10_are_zero_where_no_due_flag_is_set() {
+    for base in [&[NOW][..], &CHARTS, &ACTS] {
+        assert!(accepts(base, &[(9, 0), (10, 0)]));
+        refuses_each(base, &[(9, 1), (9, 2), (9, u32::MAX)]);
+        refuses_each(base, &[(10, 1), (10, 100), (10, u32::MAX)]);
+        assert!(!accepts(base, &[(9, 1), (10, 100)]));
+    }
+}
+
+#[test]
+fn words_9_and_10_tell_that_a_due_flag_is_set_and_its_time() {
+    assert!(accepts(&DUE, &[(9, 1), (10, 150)]));
+    let right = [&DUE[..], &[(9, 1), (10, 150)]].concat();
+    // As a store has them that was kept from before these words.
+    assert!(!accepts(&DUE, &[(9, 0), (10, 0)]));
+    refuses_each(&right, &[(9, 0), (9, 2), (9, 257), (9, 0x8000_0001), (9, u32::MAX)]);
+    refuses_each(&right, &[(10, 0), (10, 100), (10, 149), (10, 151), (10, u32::MAX)]);
+    for base in [&CHARTS[..], &ACTS] {
+        assert!(accepts(base, &right));
+        assert!(!accepts(base, &[&right[..], &[(10, 151)]].concat()));
+    }
+}
+
+#[test]
+fn a_time_of_0_is_told_from_none() {
+    let at_zero = (element(3) + 1, 1);
+    assert!(accepts(&[at_zero], &[(9, 1), (10, 0)]));
+    assert!(!accepts(&[at_zero], &[(9, 0), (10, 0)]));
+    assert!(!accepts(&[], &[(9, 1), (10, 0)]));
+}
+
+#[test]
+fn word_10_is_the_earliest_of_all_due_times() {
+    let table = delays(3);
+    let model = check(&table).expect("a sound table");
+    let times = |times: [u32; 3], word: u32| {
+        let mut store = loaded(&table, need(&model));
+        for (element, time) in times.into_iter().enumerate().filter(|&(_, time)| time != 0) {
+            store[FULL_ELEMENTS + 3 * element + 1] = 1;
+            store[FULL_ELEMENTS + 3 * element + 2] = time;
+        }
+        store[9..11].copy_from_slice(&[1, word]);
+        run(&table, &mut store, 0, &mut []).refusal
+    };
+    for order in [[20, 30, 40], [30, 20, 40], [40, 30, 20], [20, 20, 30], [30, 20, 20]] {
+        assert_eq!(times(order, 20), 0, "{order:?}");
+        for wrong in [0, 19, 21, 30, 40] {
+            assert_eq!(times(order, wrong), 6, "{order:?} and {wrong}");
+        }
+    }
+    // Times that no advance gets to; a delay with 0 here is not due.
+    let (less, most) = (0x8000_0000, 4_294_967_294);
+    assert_eq!((times([most, 0, less], less), times([most, 0, less], most)), (0, 6));
+    assert_eq!((times([0, most, 0], most), times([0, most, 0], less)), (0, 6));
 }
 
 #[test]

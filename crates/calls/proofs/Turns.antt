@@ -17,6 +17,8 @@ use Rattle.rules_tables.specs.Judge.{Verdict, accepted, refused, judge, judged,
 use Rattle.rules_store.specs.Layout.{need}
 use Rattle.rules_store.specs.Word.{nowOf}
 use Rattle.rules_store.specs.Load.{loaded}
+use Rattle.rules_store.specs.Earliest.{NextKept}
+use Rattle.rules_store.specs.laws.PutDue.{formed-keeps}
 use Rattle.calls_run.specs.declared.running.Ran.{Ran}
 use Rattle.rules_calls.specs.Run.{after, bytes}
 use Rattle.rules_calls.specs.Calls.{advanced, arrived, ofSource, valueCount}
@@ -53,6 +55,10 @@ module _ (v : Verdict) (q : ℕ) where
 -- ---- no refusal of the store: it is long enough and well formed, so now is in range
 pub store-now : (T : List ℕ) (S : Shape) (s : List ℕ) → storeRefusal T S s ≡ 0 → nowOf s < 2147483648
 store-now T S s e = let w = store-formed T S s e .parts .in-time in omega arith
+
+-- and has its next due time
+pub ready-kept : (T : List ℕ) (S : Shape) (s : List ℕ) {q : ℕ} → q ≡ storeRefusal T S s → q ≡ 0 → NextKept S s
+ready-kept T S s e z = formed-keeps T S s (store-formed T S s (sym e ∙ z))
 
 -- an arrival that is not refused names an event output of a source and has its number of values
 pub event-known : (T : List ℕ) (S : Shape) (s : List ℕ) (o birth : ℕ) (vs : List ℕ) → eventRefusal T S s o birth vs ≡ 0 → (ofSource T S o ≡ true) × (length vs ≡ valueCount T S o)

@@ -2,6 +2,7 @@
 ghost use mathlib.Core.Path.{_≡_};
 ghost use Prim.Native.Nat.{_<_};
 ghost use Rattle.rules_tables.specs.Good.{Good};
+ghost use Rattle.rules_store.specs.Earliest.{NextKept};
 ghost use Rattle.rules_calls.specs.Answer.{refusedOf};
 ghost use Rattle.rules_calls.specs.Refusals.{storeRefusal, timeRefusal, eventRefusal};
 ghost use Rattle.rules_calls.specs.Public.{LoadCall, AdvanceCall, ArrivalCall, RunCall};
@@ -47,18 +48,14 @@ pub fn store_refusal(t: &[u8], store: &[u32], shape: Shape) -> usize
 }
 
 // 7, 8 or 0.
-fn time_refusal(t: &[u8], store: &[u32], shape: Shape, to: u32) -> usize
-    requires { ⌜ Good (now t) shape ⌝ }
+fn time_refusal(store: &[u32], shape: Shape, to: u32) -> usize
+    requires { ⌜ NextKept shape (now store) ⌝ }
     ensures { λ r. ⌜ r ≡ timeRefusal shape (now (store .entry)) to ⌝ }
 {
     if wrong_time(store, to) {
         return 7;
     }
-    if beyond_due(t, store, shape, to) {
-        8
-    } else {
-        0
-    }
+    if beyond_due(store, shape, to) { 8 } else { 0 }
 }
 
 // 9, 10, 11 or 0.
@@ -113,7 +110,7 @@ pub fn advance(t: &[u8], store: &mut [u32], to: u32) -> Answer
     if q != 0 {
         return Answer::Refused(q, 0);
     }
-    let p = time_refusal(t, store, shape, to);
+    let p = time_refusal(store, shape, to);
     if p != 0 {
         return Answer::Refused(p, 0);
     }

@@ -1,26 +1,30 @@
 // Advance and arrival.
 ghost use mathlib.Core.Path.{_≡_};
-ghost use mathlib.Core.Bool.{true};
+ghost use mathlib.Core.Bool.{true, false};
 ghost use Prim.Native.Nat.{_<_};
+ghost use lib.Dec.{eqb, ltb};
 ghost use lib.ListN.{length};
+ghost use Rattle.rules_walks.specs.Pick.{either};
 ghost use Rattle.rules_walks.specs.Walk.{upTo};
 ghost use Rattle.rules_walks.specs.Choose.{choose};
 ghost use Rattle.rules_tables.specs.Good.{Good};
 ghost use Rattle.rules_tables.specs.Ids.{elements as «elementsOf», associations as «associationsOf»};
 ghost use Rattle.rules_tables.specs.Lawful.{Lawful};
 ghost use Rattle.table_index.specs.Index.{Owners, Indexed};
-ghost use Rattle.rules_calls.specs.Calls.{dueAt, expired, expire, advanced, wrongTime, dueBefore, beyondDue, give, arrived, ofSource, valueCount as «valueCountOf»};
+ghost use Rattle.rules_store.specs.Word.{nextDue};
+ghost use Rattle.rules_store.specs.Earliest.{NextKept};
+ghost use Rattle.rules_calls.specs.Calls.{expired, expire, advanced, wrongTime, beyondDue, give, arrived, ofSource, valueCount as «valueCountOf»};
 use moves_fire::fire;
 use moves_fire::fire_by;
 use rules_moves::Voice;
 use rules_tables::Shape;
+use store_words::due::due_at;
+use store_words::due::put_due;
 use store_words::shape::association_frame;
 use store_words::shape::associations;
 use store_words::shape::output_frame;
 use store_words::shape::outputs;
-use store_words::word::due_flag;
-use store_words::word::due_time;
-use store_words::word::put_due;
+use store_words::word::next_due;
 use store_words::word::put_time;
 use store_words::word::put_value;
 use store_words::word::time;
@@ -37,33 +41,22 @@ use table_parts::Found;
 use table_parts::nth;
 use table_parts::rank;
 
-// Element el is due at the time `to`.
-fn due_at(store: &[u32], el: usize, to: u32) -> bool
-    requires { ⌜ el < 4294967296 ⌝ }
-    ensures { λ r. ⌜ r ≡ dueAt (now (store .entry)) to el ⌝ }
-{
-    if due_flag(store, el) == 0 {
-        return false;
-    }
-    due_time(store, el) == to
-}
-
 // Delay el, due at the time `to`, fires with that birth and is cleared.
 fn expire_delay(t: &[u8], ix: &[u16; SIZE], store: &mut [u32], shape: Shape, el: usize, to: u32)
-    requires { ⌜ Good (now t) shape × (el < 4294967296) × Indexed (now t) shape (now ix) ⌝ }
+    requires { ⌜ Good (now t) shape × (el < elementsOf shape) × Indexed (now t) shape (now ix) × Lawful (now t) shape × NextKept shape (now store) ⌝ }
     ensures { λ _. ⌜ now (store .exit) ≡ expired (now (t .entry)) shape to el (now (store .entry)) ⌝ }
 {
     let Found::One(o) = nth(t, shape.inputs_end, outputs(shape), ANY, el, 0) else {
-        put_due(store, el, 0, 0);
+        put_due(store, shape, el, 0, 0);
         return;
     };
     fire(t, ix, store, shape, o, to, to);
-    put_due(store, el, 0, 0);
+    put_due(store, shape, el, 0, 0);
 }
 
 // Advance sets now, then fires, with birth `to`, each delay due then and clears it.
 fn advance_by(t: &[u8], ix: &[u16; SIZE], store: &mut [u32], shape: Shape, to: u32)
-    requires { ⌜ Good (now t) shape × Indexed (now t) shape (now ix) ⌝ }
+    requires { ⌜ Good (now t) shape × Indexed (now t) shape (now ix) × Lawful (now t) shape × NextKept shape (now store) ⌝ }
     ensures { λ _. ⌜ now (store .exit) ≡ advanced (now (t .entry)) shape to (now (store .entry)) ⌝ }
 {
     put_time(store, to);
@@ -71,7 +64,7 @@ fn advance_by(t: &[u8], ix: &[u16; SIZE], store: &mut [u32], shape: Shape, to: u
 }
 
 fn expire_all(t: &[u8], ix: &[u16; SIZE], store: &mut [u32], shape: Shape, to: u32)
-    requires { ⌜ Good (now t) shape × Indexed (now t) shape (now ix) ⌝ }
+    requires { ⌜ Good (now t) shape × Indexed (now t) shape (now ix) × Lawful (now t) shape × NextKept shape (now store) ⌝ }
     ensures { λ _. ⌜ now (store .exit) ≡ upTo (expire (now (t .entry)) shape to) (elementsOf shape) (now (store .entry)) ⌝ }
 {
     let n = shape.elements_end;
@@ -94,30 +87,27 @@ pub fn wrong_time(store: &[u32], to: u32) -> bool
     2147483647 < to
 }
 
-fn due_before(store: &[u32], el: usize, to: u32) -> bool
-    requires { ⌜ el < 4294967296 ⌝ }
-    ensures { λ r. ⌜ r ≡ dueBefore (now (store .entry)) to el ⌝ }
-{
-    if due_flag(store, el) == 0 {
-        return false;
-    }
-    due_time(store, el) < to
-}
-
-// A time beyond the due time of a delay.
-pub fn beyond_due(t: &[u8], store: &[u32], shape: Shape, to: u32) -> bool
-    requires { ⌜ Good (now t) shape ⌝ }
+// A time beyond the due time of a delay, which is one beyond the next due time.
+pub fn beyond_due(store: &[u32], shape: Shape, to: u32) -> bool
+    requires { ⌜ NextKept shape (now store) ⌝ }
     ensures { λ r. ⌜ r ≡ beyondDue shape (now (store .entry)) to ⌝ }
 {
-    let n = shape.elements_end;
-    let mut el = 0;
-    while el < n {
-        if due_before(store, el, to) {
-            return true;
-        }
-        el += 1;
+    let next = next_due(store);
+    if next.due == 0 {
+        return false;
     }
-    false
+    next.time < to
+}
+
+// Nothing is due by the time `to`, as the store tells it.
+fn nothing_due(store: &[u32], to: u32) -> bool
+    ensures { λ r. ⌜ r ≡ either (eqb (nextDue (now (store .entry)) .due) 0) (ltb to (nextDue (now (store .entry)) .time)) ⌝ }
+{
+    let next = next_due(store);
+    if next.due == 0 {
+        return true;
+    }
+    to < next.time
 }
 
 // The values go into the associated output variables in table order.
@@ -170,7 +160,7 @@ fn come(
     values: &[u32],
     to: u32,
 )
-    requires { ⌜ Good (now t) shape × Lawful (now t) shape × Owners (now t) shape × (arriving ≡ true → (ofSource (now t) shape o ≡ true) × (length (now values) ≡ valueCountOf (now t) shape o)) ⌝ }
+    requires { ⌜ Good (now t) shape × Lawful (now t) shape × Owners (now t) shape × (arriving ≡ true → (ofSource (now t) shape o ≡ true) × (length (now values) ≡ valueCountOf (now t) shape o)) × (arriving ≡ false → NextKept shape (now store)) ⌝ }
     ensures { λ _. ⌜ now (store .exit) ≡ choose arriving (arrived (now (t .entry)) shape o birth (now (values .entry)) (now (store .entry))) (advanced (now (t .entry)) shape to (now (store .entry))) ⌝ }
 {
     let mut ix = [0u16; SIZE];
@@ -182,11 +172,15 @@ fn come(
     advance_by(t, &ix, store, shape, to);
 }
 
-// Time passes to `to`.
+// Time passes to `to`. Where nothing is due by then no element is looked at, and no index is made.
 pub fn advance_to(t: &[u8], store: &mut [u32], shape: Shape, to: u32)
-    requires { ⌜ Good (now t) shape × Lawful (now t) shape × Owners (now t) shape ⌝ }
+    requires { ⌜ Good (now t) shape × Lawful (now t) shape × Owners (now t) shape × NextKept shape (now store) ⌝ }
     ensures { λ _. ⌜ now (store .exit) ≡ advanced (now (t .entry)) shape to (now (store .entry)) ⌝ }
 {
+    if nothing_due(store, to) {
+        put_time(store, to);
+        return;
+    }
     let none = [0u32; 0];
     come(t, store, shape, false, 0, 0, &none, to);
 }

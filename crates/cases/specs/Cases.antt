@@ -1,5 +1,5 @@
--- Document 01's "Examples to prove", and document 02's of a second START and of the count of untrue steps: one table of definition cases. The one claim over it
--- is in Claim.
+-- Document 01's "Examples to prove", and document 02's of a second START, of the next due time and of the count of untrue steps: one table of definition cases.
+-- The one claim over it is in Claim.
 use mathlib.Core.List.{List, [], _∷_, _++_}
 use Prim.Native.Nat.{ℕ, _+_, _*_}
 use lib.IntN.{ℤ, pos, negℤ}
@@ -12,7 +12,7 @@ use Rattle.rules_numbers.specs.Truth.{outcome}
 use Rattle.rules_tables.specs.Judge.{Verdict}
 use Rattle.cases_tables.specs.Worked.{frame, worked, bytes}
 use Rattle.rules_walks.specs.Pick.{pick}
-use Rattle.rules_store.specs.Word.{dueFlag, dueTime, untrue, putUntrue}
+use Rattle.rules_store.specs.Word.{dueFlag, dueTime, nextDue, untrue, putUntrue}
 use Rattle.rules_calls.specs.Answer.{untrueOf}
 use Rattle.rules_calls.specs.Public.{Call, load, advance, arrival, run, storeOf, answerOf}
 use Rattle.cases.specs.Script.{stored, answered, printed}
@@ -25,6 +25,10 @@ pub data Table : Type 0 where
   repeated : Table
   -- a source that starts and stops a delay with DT 50, and a sink that hears it
   delayed : Table
+  -- a source that starts two delays with DT 50, elements 1 and 2, and stops the first
+  paired : Table
+  -- a source that starts a delay with DT -1, which counts as 0
+  prompt : Table
 
 unfoldable pub framesIn : Table → List (List ℕ)
 framesIn doubler = worked
@@ -43,6 +47,33 @@ framesIn delayed =
     frame 10 0 0 0 0 0 0 ∷
     frame 10 0 1 1 0 0 0 ∷
     frame 10 0 2 2 0 0 0 ∷ []
+framesIn paired =
+    frame 1 3 0 0 0 0 0 ∷
+    frame 1 2 1 0 0 0 0 ∷
+    frame 1 2 2 0 0 0 0 ∷
+    frame 2 0 1 0 0 0 0 ∷
+    frame 2 1 1 0 0 0 0 ∷
+    frame 2 0 2 0 0 0 0 ∷
+    frame 2 1 2 0 0 0 0 ∷
+    frame 3 0 0 0 0 0 0 ∷
+    frame 3 0 0 0 0 0 0 ∷
+    frame 3 0 0 0 0 0 0 ∷
+    frame 3 0 1 0 0 0 0 ∷
+    frame 3 0 2 0 0 0 0 ∷
+    frame 4 0 1 0 50 0 0 ∷
+    frame 4 0 2 0 50 0 0 ∷
+    frame 10 0 0 0 0 0 0 ∷
+    frame 10 0 1 2 0 0 0 ∷
+    frame 10 0 2 1 0 0 0 ∷ []
+framesIn prompt =
+    frame 1 3 0 0 0 0 0 ∷
+    frame 1 2 1 0 0 0 0 ∷
+    frame 2 0 1 0 0 0 0 ∷
+    frame 2 1 1 0 0 0 0 ∷
+    frame 3 0 0 0 0 0 0 ∷
+    frame 3 0 1 0 0 0 0 ∷
+    frame 4 0 1 65535 65535 0 0 ∷
+    frame 10 0 0 0 0 0 0 ∷ []
 
 abbrev pub tableOf : Table → List ℕ
 tableOf t = bytes (framesIn t)
@@ -53,7 +84,7 @@ pub data Asked : Type 0 where
   answer : Table → ℕ → ℕ → List Call → Call → Asked
   -- the record that a run with this budget writes, as words
   recorded : Table → ℕ → ℕ → List Call → ℕ → Asked
-  -- due flag and due time of element 1
+  -- due flag and due time of element 1, and the next due time: whether something is due, and when
   due : Table → ℕ → ℕ → List Call → Asked
   -- the untrue steps that a run with this budget tells, and word 11 after it, where that held so many before
   counted : Table → ℕ → ℕ → List Call → ℕ → ℕ → Asked
@@ -82,7 +113,7 @@ resultWords o = word (o .result) ∷ pick (o .«is_true») 1 0 ∷ []
 abbrev pub tells : (Table → Verdict) → Asked → List ℕ
 tells v (answer t words room cs c) = answered (v t) (tableOf t) room (replicate words 7) cs c
 tells v (recorded t words room cs b) = wordsOf (printed (tableOf t) room (stored (v t) (tableOf t) room (replicate words 7) cs) b)
-tells v (due t words room cs) = let s = stored (v t) (tableOf t) room (replicate words 7) cs in dueFlag s 1 ∷ dueTime s 1 ∷ []
+tells v (due t words room cs) = let s = stored (v t) (tableOf t) room (replicate words 7) cs in dueFlag s 1 ∷ dueTime s 1 ∷ nextDue s .due ∷ nextDue s .time ∷ []
 tells v (counted t words room cs n b) = countedBy (v t) (tableOf t) room (putUntrue n (stored (v t) (tableOf t) room (replicate words 7) cs)) (run b)
 tells v (result op b c) = resultWords (outcome op b c (pos 0))
 
@@ -110,6 +141,26 @@ anew = again ++ (advance 150 ∷ arrival 0 150 [] ∷ run 100 ∷ [])
 
 abbrev restarted : List Call
 restarted = anew ++ (advance 160 ∷ arrival 1 160 [] ∷ run 100 ∷ arrival 0 160 [] ∷ run 100 ∷ [])
+
+-- of the two delays the first is started at 100 and the second at 120; then the first is stopped; started again; and time passes to where both are due
+abbrev two : List Call
+two = load ∷ advance 100 ∷ arrival 0 100 [] ∷ run 100 ∷ advance 120 ∷ arrival 1 120 [] ∷ run 100 ∷ []
+
+abbrev stopped : List Call
+stopped = two ++ (arrival 2 120 [] ∷ run 100 ∷ [])
+
+abbrev together : List Call
+together = stopped ++ (arrival 0 120 [] ∷ run 100 ∷ [])
+
+abbrev passed : List Call
+passed = together ++ (advance 170 ∷ [])
+
+-- START taken at 0, where now is 0; and time passes to 0
+abbrev atOnce : List Call
+atOnce = load ∷ arrival 0 0 [] ∷ run 100 ∷ []
+
+abbrev fired : List Call
+fired = atOnce ++ (advance 0 ∷ [])
 
 abbrev accepts : List ℕ
 accepts = 0 ∷ 0 ∷ 0 ∷ 0 ∷ 0 ∷ 0 ∷ []
@@ -146,14 +197,14 @@ cases =
     -- "last frame given twice refused 4 at frame 25"
     gives (answer repeated 39 4096 [] load) (refuses 4 25) ∷
     -- "DT 50 taken at 100 is due at 150, and 151 is refused 8"
-    gives (due delayed 40 4096 started) (1 ∷ 150 ∷ []) ∷
+    gives (due delayed 40 4096 started) (1 ∷ 150 ∷ 1 ∷ 150 ∷ []) ∷
     gives (answer delayed 40 4096 started (advance 150)) accepts ∷
     gives (answer delayed 40 4096 started (advance 151)) (refuses 8 0) ∷
     -- "with DT 50, START at 100 and again at 120, due stays 150"; after the output, and after a STOP, a START counts
-    gives (due delayed 40 4096 again) (1 ∷ 150 ∷ []) ∷
+    gives (due delayed 40 4096 again) (1 ∷ 150 ∷ 1 ∷ 150 ∷ []) ∷
     gives (answer delayed 40 4096 again (advance 151)) (refuses 8 0) ∷
-    gives (due delayed 40 4096 anew) (1 ∷ 200 ∷ []) ∷
-    gives (due delayed 40 4096 restarted) (1 ∷ 210 ∷ []) ∷
+    gives (due delayed 40 4096 anew) (1 ∷ 200 ∷ 1 ∷ 200 ∷ []) ∷
+    gives (due delayed 40 4096 restarted) (1 ∷ 210 ∷ 1 ∷ 210 ∷ []) ∷
     -- "the two results 2147483647 above": negating the lowest number, and dividing it by -1; neither is the true one
     gives (result 3 lowest (pos 0)) (2147483647 ∷ 0 ∷ []) ∷
     gives (result 5 lowest (minus 1)) (2147483647 ∷ 0 ∷ []) ∷
@@ -168,4 +219,14 @@ cases =
     -- "Word 11 counts untrue steps since load and stops at 4,294,967,295."
     gives (counted doubler 39 4096 clipping 0 100) (1 ∷ 1 ∷ []) ∷
     gives (counted doubler 39 4096 clipping 4294967294 100) (1 ∷ 4294967295 ∷ []) ∷
-    gives (counted doubler 39 4096 clipping 4294967295 100) (1 ∷ 4294967295 ∷ []) ∷ []
+    gives (counted doubler 39 4096 clipping 4294967295 100) (1 ∷ 4294967295 ∷ []) ∷
+    -- "word 9 tells whether a due flag is set, word 10 the earliest time or 0": no delay; two; the earlier stopped; two due at one time, and both fired
+    gives (due doubler 39 4096 ready) (0 ∷ 0 ∷ 0 ∷ 0 ∷ []) ∷
+    gives (due paired 41 4096 two) (1 ∷ 150 ∷ 1 ∷ 150 ∷ []) ∷
+    gives (due paired 41 4096 stopped) (0 ∷ 0 ∷ 1 ∷ 170 ∷ []) ∷
+    gives (due paired 41 4096 together) (1 ∷ 170 ∷ 1 ∷ 170 ∷ []) ∷
+    gives (answer paired 41 4096 together (advance 171)) (refuses 8 0) ∷
+    gives (due paired 41 4096 passed) (0 ∷ 0 ∷ 0 ∷ 0 ∷ []) ∷
+    -- due at 0, where now is 0: word 10 is 0 while word 9 is 1
+    gives (due prompt 41 4096 atOnce) (1 ∷ 0 ∷ 1 ∷ 0 ∷ []) ∷
+    gives (due prompt 41 4096 fired) (0 ∷ 0 ∷ 0 ∷ 0 ∷ []) ∷ []

@@ -20,7 +20,8 @@ use Rattle.rules_tables.specs.Judge.{lengthOk, faultAt, scanTo, judge}
 use Rattle.cases_tables.specs.Worked.{worked}
 use Rattle.rules_tables.specs.Ids.{inputs, outputs, variables, associations, states, transitions, actions, steps, connections, links}
 use Rattle.rules_store.specs.Layout.{need, elementAt, inputAt, variableAt}
-use Rattle.rules_store.specs.Word.{nowOf, putNow, runningElement, currentEvent, putOwner, runningOf, putRunning, counted, overwritten, putOverwritten, untrue, putUntrue, spareAt, spareWord, chartState, putChartState, dueFlag, dueTime, putDue, waiting, birthOf, lastUpdate, putInput, value, putValue, buffer, putBuffer}
+use Rattle.rules_store.specs.Word.{nowOf, putNow, runningElement, currentEvent, putOwner, runningOf, putRunning, counted, overwritten, putOverwritten, untrue, putUntrue, spareAt, spareWord, chartState, putChartState, dueFlag, dueTime, setDue, nextDue, putNext, waiting, birthOf, lastUpdate, putInput, value, putValue, buffer, putBuffer}
+use Rattle.rules_store.specs.Due.{dueAt, sooner, earliest, putDue}
 use Rattle.rules_tables.specs.Owned.{belongs, isNth}
 use Rattle.rules_moves.specs.Partner.{partnerOutput, partnerInput, partnerVariable}
 use Rattle.rules_moves.specs.Carry.{voiceOf, speaks, carriedBy, carries}
@@ -33,15 +34,15 @@ use Rattle.rules_moves.specs.Chart.{heard, guardHolds, enabled, transitionOf, c
 use Rattle.rules_tables.specs.Actions.{actionOf, actionNumber}
 use Rattle.rules_moves.specs.Act.{stepOutcome, resultPut, untrueStep, countUntrue, oneStep, stepMove, eventOf, endMove}
 use Rattle.rules_moves.specs.Next.{eventNext, chartNext, actNext, nextBy, nextOf, moveBy, move, untrueBy, untrueMove, writtenBy, written, sizeBy}
-use Rattle.rules_store.specs.WellFormed.{spareOk, restOk, ownerOk, stepOk, modeOk, runningOk, chartOk, dueOk, elementOk, inputOk, variableOk, partsOk, wellFormed}
+use Rattle.rules_store.specs.WellFormed.{spareOk, isNext, nextOk, restOk, ownerOk, stepOk, modeOk, runningOk, chartOk, dueOk, elementOk, inputOk, variableOk, partsOk, wellFormed}
 use Rattle.rules_store.specs.Load.{initial, startValue, start, loaded}
 use Rattle.rules_calls.specs.Run.{after, bytes, untrueIn, another, roomFor, continues, made, stopAfter}
-use Rattle.rules_calls.specs.Calls.{dueAt, expired, expire, advanced, wrongTime, dueBefore, beyondDue, give, arrived, ofSource, valueCount}
+use Rattle.rules_calls.specs.Calls.{expired, expire, advanced, wrongTime, dueBefore, beyondDue, give, arrived, ofSource, valueCount}
 use Rattle.rules_calls.specs.Refusals.{loadRefusal, storeRefusal, timeRefusal, advanceRefusal, eventRefusal, arrivalRefusal}
 use Rattle.cases.specs.Script.{stored, answered, printed}
 use Rattle.cases.specs.Cases.{framesIn}
 
 -- every definition on the way, named once
 unfoldable pub everything : Unit {0}
-unfolding framesIn worked stored answered printed choose allTo anyTo countIf heldTo upTo firstFrom halfAt wordAt halfBytes wordBytes clip quotient least greatest operation trueValue outcome kindAt flagAt fieldAt seekTo orderAt ownedBy sortIs usedOf clearAt stepsOk bodyOk formOk initialState ofElement joins associates ofBasic maybeOwned usesOwn transits resultOf stepsOf acts stepsTo connectsEvents variableWith connectsData refersAs refersOk alike shares fresh sameEvent eightAtMost classAt partAt parts sourceShape sinkShape interfaceShape delayShape shapeAs shapeOk rulesOk lengthOk faultAt scanTo judge inputs outputs variables associations states transitions actions steps connections links need elementAt inputAt variableAt nowOf putNow runningElement currentEvent putOwner runningOf putRunning overwritten putOverwritten untrue putUntrue spareAt spareWord chartState putChartState dueFlag dueTime putDue waiting birthOf lastUpdate putInput value putValue buffer putBuffer belongs isNth partnerOutput partnerInput partnerVariable voiceOf speaks carriedBy carries counted mark connect copyIf fire beats better look «leastOf» sample passTo pass fireFound ticksIn dtOf isStart started startStop wake sampled settle settled firedBy taken head valueOf values recordOf recordSize putOut heard guardOf guardAt holds guardHolds enabled transitionOf actionOf actionNumber change goIdle stepOutcome resultPut untrueStep countUntrue oneStep stepMove eventOf endMove eventNext chartNext actNext nextBy nextOf moveBy move untrueBy untrueMove writtenBy written sizeBy spareOk restOk ownerOk stepOk modeOk runningOk chartOk dueOk elementOk inputOk variableOk partsOk wellFormed initial startValue start loaded after bytes untrueIn another roomFor continues made stopAfter dueAt expired expire advanced wrongTime dueBefore beyondDue give arrived ofSource valueCount loadRefusal storeRefusal timeRefusal advanceRefusal eventRefusal arrivalRefusal
+unfolding framesIn worked stored answered printed choose allTo anyTo countIf heldTo upTo firstFrom halfAt wordAt halfBytes wordBytes clip quotient least greatest operation trueValue outcome kindAt flagAt fieldAt seekTo orderAt ownedBy sortIs usedOf clearAt stepsOk bodyOk formOk initialState ofElement joins associates ofBasic maybeOwned usesOwn transits resultOf stepsOf acts stepsTo connectsEvents variableWith connectsData refersAs refersOk alike shares fresh sameEvent eightAtMost classAt partAt parts sourceShape sinkShape interfaceShape delayShape shapeAs shapeOk rulesOk lengthOk faultAt scanTo judge inputs outputs variables associations states transitions actions steps connections links need elementAt inputAt variableAt nowOf putNow runningElement currentEvent putOwner runningOf putRunning overwritten putOverwritten untrue putUntrue spareAt spareWord chartState putChartState dueFlag dueTime setDue nextDue putNext dueAt sooner earliest putDue waiting birthOf lastUpdate putInput value putValue buffer putBuffer belongs isNth partnerOutput partnerInput partnerVariable voiceOf speaks carriedBy carries counted mark connect copyIf fire beats better look «leastOf» sample passTo pass fireFound ticksIn dtOf isStart started startStop wake sampled settle settled firedBy taken head valueOf values recordOf recordSize putOut heard guardOf guardAt holds guardHolds enabled transitionOf actionOf actionNumber change goIdle stepOutcome resultPut untrueStep countUntrue oneStep stepMove eventOf endMove eventNext chartNext actNext nextBy nextOf moveBy move untrueBy untrueMove writtenBy written sizeBy spareOk isNext nextOk restOk ownerOk stepOk modeOk runningOk chartOk dueOk elementOk inputOk variableOk partsOk wellFormed initial startValue start loaded after bytes untrueIn another roomFor continues made stopAfter expired expire advanced wrongTime dueBefore beyondDue give arrived ofSource valueCount loadRefusal storeRefusal timeRefusal advanceRefusal eventRefusal arrivalRefusal
 everything = tt

@@ -5,7 +5,7 @@ use lib.ListN.{getD, length}
 use Rattle.rules_numbers.specs.Word.{word}
 use Rattle.rules_numbers.specs.Bytes.{halfAt}
 use Rattle.rules_calls.specs.Public.{Call as «CallOf», load, advance, arrival, run}
-use Rattle.cases.specs.Cases.{Table, doubler, repeated, delayed, framesIn, Asked, answer, recorded, due, counted, result, Case, cases}
+use Rattle.cases.specs.Cases.{Table, doubler, repeated, delayed, paired, prompt, framesIn, Asked, answer, recorded, due, counted, result, Case, cases}
 use Rattle.cases_main.specs.declared.data.Frame.{Frame}
 use Rattle.cases_main.specs.declared.data.Call.{Call}
 use Rattle.cases_main.specs.declared.data.Row.{Row}
@@ -18,7 +18,7 @@ abbrev pub noFrame : Frame
 noFrame = (0, 0, 0, 0, 0, 0, 0)
 
 unfoldable pub frames : List Frame
-frames = map asFrame (framesIn repeated ++ framesIn delayed)
+frames = map asFrame (framesIn repeated ++ framesIn delayed ++ framesIn paired ++ framesIn prompt)
 
 -- ---- calls
 abbrev pub asCall : «CallOf» → Call
@@ -31,7 +31,7 @@ asCall (run b) = (5, b, 0)
 abbrev pub noCall : Call
 noCall = (0, 0, 0)
 
--- the calls that come before a case's own, on the worked table and on the delay's: those of the longest case of each
+-- the calls that come before a case's own, on the worked table, on the delay's, the two delays' and the prompt one's: those of the longest case of each
 abbrev pub calls : List Call
 calls =
     map asCall
@@ -49,19 +49,42 @@ calls =
     advance 150 ∷
     arrival 0 150 [] ∷
     run 100 ∷
-    advance 160 ∷ arrival 1 160 [] ∷ run 100 ∷ arrival 0 160 [] ∷ run 100 ∷ [])
+    advance 160 ∷
+    arrival 1 160 [] ∷
+    run 100 ∷
+    arrival 0 160 [] ∷
+    run 100 ∷
+    load ∷
+    advance 100 ∷
+    arrival 0 100 [] ∷
+    run 100 ∷
+    advance 120 ∷
+    arrival 1 120 [] ∷
+    run 100 ∷
+    arrival 2 120 [] ∷
+    run 100 ∷
+    arrival 0 120 [] ∷
+    run 100 ∷
+    advance 170 ∷
+    load ∷
+    arrival 0 0 [] ∷
+    run 100 ∷ advance 0 ∷ [])
 
 -- ---- rows
 abbrev asTable : Table → ℕ
 asTable doubler = 0
 asTable repeated = 1
 asTable delayed = 2
+asTable paired = 3
+asTable prompt = 4
 
 -- where its calls begin
 abbrev first : Table → ℕ
 first doubler = 0
 first repeated = 0
 first delayed = 4
+first paired = 19
+first prompt = 31
 
 -- of a call and what must come out
 abbrev row : ℕ → ℕ → ℕ → ℕ → ℕ → ℕ → Call → List ℕ → Row
@@ -83,6 +106,6 @@ noRow = (0, 0, 0, 0, 0, 0, 0, 0, 0, 0, 0, 0, 0, 0, 0)
 
 -- ---- a row that fits the program's buffers
 pub record Fits (r : Row) : Type 0 where
-  pub words : r .2 ≤ 40
+  pub words : r .2 ≤ 41
   pub room : r .3 ≤ 4096
-  pub last : r .5 ≤ 19
+  pub last : r .5 ≤ 35

@@ -19,6 +19,7 @@ use numbers::word::to_word;
 use rules_calls::Answer;
 use store_words::word::due_flag;
 use store_words::word::due_time;
+use store_words::word::next_due;
 use store_words::word::put_untrue;
 use store_words::word::untrue_count;
 
@@ -51,12 +52,12 @@ fn low(n: u16) -> u8 {
 }
 
 // The bytes of all frames, one after another.
-fn tables() -> [u8; 468]
-    ensures { λ r. ⌜ length r ≡ 468 ⌝ }
+fn tables() -> [u8; 768]
+    ensures { λ r. ⌜ length r ≡ 768 ⌝ }
 {
-    let mut t = [0u8; 468];
+    let mut t = [0u8; 768];
     let mut i = 0;
-    while i < 468 {
+    while i < 768 {
         t[i] = byte_of(frame_at(i / 12), i % 12);
         i += 1;
     }
@@ -95,7 +96,7 @@ fn make_all(
     to: usize,
     own: Call,
 ) -> Answer
-    requires { ⌜ to ≤ 19 ⌝ }
+    requires { ⌜ to ≤ 35 ⌝ }
 {
     let mut i = from;
     let mut answer = Answer::Done;
@@ -132,20 +133,21 @@ fn recorded(out: &[u8; 4096]) -> Six {
     )
 }
 
-// Due flag and due time of element 1.
-fn due(store: &[u32; 40]) -> Six {
+// Due flag and due time of element 1, and the next due time.
+fn due(store: &[u32; 41]) -> Six {
+    let next = next_due(store);
     Six(
         due_flag(store, 1) as u64,
         due_time(store, 1) as u64,
-        0,
-        0,
+        next.due as u64,
+        next.time as u64,
         0,
         0,
     )
 }
 
 // The untrue steps that a run tells, and word 11 after it.
-fn counted(answer: Answer, store: &[u32; 40]) -> Six {
+fn counted(answer: Answer, store: &[u32; 41]) -> Six {
     Six(
         answer.untrue() as u64,
         untrue_count(store) as u64,
@@ -166,7 +168,7 @@ fn result(op: usize, b: u32, c: u32) -> Six {
 fn outcome_on(t: &[u8], row: Row) -> Six
     requires { ⌜ Fits row ⌝ }
 {
-    let mut store = [7u32; 40];
+    let mut store = [7u32; 41];
     let mut out = io::buffer();
     let words = row.2;
     let room = row.3;
@@ -199,6 +201,8 @@ pub fn outcome(row: Row) -> Six
     match table {
         0 => outcome_on(&t[..300], row),
         1 => outcome_on(&t[..312], row),
-        _ => outcome_on(&t[312..], row),
+        2 => outcome_on(&t[312..468], row),
+        3 => outcome_on(&t[468..672], row),
+        _ => outcome_on(&t[672..], row),
     }
 }

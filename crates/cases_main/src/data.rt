@@ -7,8 +7,8 @@ ghost use Rattle.cases_main.specs.Rows.{rows, calls, frames, noRow, noCa
 // Kind, flag and the fields a to e.
 pub struct Frame(pub u8, pub u8, pub u16, pub u16, pub u16, pub u16, pub u16);
 
-// The worked table and its last frame a second time; then the table of a delay.
-const FRAMES: [Frame; 39] = [
+// The worked table and its last frame a second time; then the tables of a delay, of two delays, and of one with a negative DT.
+const FRAMES: [Frame; 64] = [
     Frame(1, 3, 1, 0, 0, 0, 0),
     Frame(1, 0, 0, 0, 0, 0, 0),
     Frame(1, 4, 2, 0, 0, 0, 0),
@@ -48,14 +48,39 @@ const FRAMES: [Frame; 39] = [
     Frame(10, 0, 0, 0, 0, 0, 0),
     Frame(10, 0, 1, 1, 0, 0, 0),
     Frame(10, 0, 2, 2, 0, 0, 0),
+    Frame(1, 3, 0, 0, 0, 0, 0),
+    Frame(1, 2, 1, 0, 0, 0, 0),
+    Frame(1, 2, 2, 0, 0, 0, 0),
+    Frame(2, 0, 1, 0, 0, 0, 0),
+    Frame(2, 1, 1, 0, 0, 0, 0),
+    Frame(2, 0, 2, 0, 0, 0, 0),
+    Frame(2, 1, 2, 0, 0, 0, 0),
+    Frame(3, 0, 0, 0, 0, 0, 0),
+    Frame(3, 0, 0, 0, 0, 0, 0),
+    Frame(3, 0, 0, 0, 0, 0, 0),
+    Frame(3, 0, 1, 0, 0, 0, 0),
+    Frame(3, 0, 2, 0, 0, 0, 0),
+    Frame(4, 0, 1, 0, 50, 0, 0),
+    Frame(4, 0, 2, 0, 50, 0, 0),
+    Frame(10, 0, 0, 0, 0, 0, 0),
+    Frame(10, 0, 1, 2, 0, 0, 0),
+    Frame(10, 0, 2, 1, 0, 0, 0),
+    Frame(1, 3, 0, 0, 0, 0, 0),
+    Frame(1, 2, 1, 0, 0, 0, 0),
+    Frame(2, 0, 1, 0, 0, 0, 0),
+    Frame(2, 1, 1, 0, 0, 0, 0),
+    Frame(3, 0, 0, 0, 0, 0, 0),
+    Frame(3, 0, 1, 0, 0, 0, 0),
+    Frame(4, 0, 1, 65535, 65535, 0, 0),
+    Frame(10, 0, 0, 0, 0, 0, 0),
 ];
 
 // What is called (0 nothing, 1 load, 2 advance, 3 an arrival with no value, 4 one of event 0 with a value, 5 run, 6 run where word 11 holds the value), its
 // time, birth or budget, and the value, or the event that arrives with none.
 pub struct Call(pub usize, pub u32, pub u32);
 
-// The calls before a case's own: four on the worked table, the others on the delay's.
-const CALLS: [Call; 19] = [
+// The calls before a case's own: four on the worked table, fifteen on the delay's, twelve on that of two delays, four on the prompt one's.
+const CALLS: [Call; 35] = [
     Call(1, 0, 0),
     Call(2, 10, 0),
     Call(4, 7, 21),
@@ -75,14 +100,30 @@ const CALLS: [Call; 19] = [
     Call(5, 100, 0),
     Call(3, 160, 0),
     Call(5, 100, 0),
+    Call(1, 0, 0),
+    Call(2, 100, 0),
+    Call(3, 100, 0),
+    Call(5, 100, 0),
+    Call(2, 120, 0),
+    Call(3, 120, 1),
+    Call(5, 100, 0),
+    Call(3, 120, 2),
+    Call(5, 100, 0),
+    Call(3, 120, 0),
+    Call(5, 100, 0),
+    Call(2, 170, 0),
+    Call(1, 0, 0),
+    Call(3, 0, 0),
+    Call(5, 100, 0),
+    Call(2, 0, 0),
 ];
 
 // What comes out of a case: the six numbers of an answer (refusal, frame, moves, stop number, bytes, untrue steps), or up to five words, and zeros.
 pub struct Six(pub u64, pub u64, pub u64, pub u64, pub u64, pub u64);
 
-// What is asked (0 the answer of the case's own call, 1 the record that it wrote, 2 due flag and time of element 1, 3 the untrue steps that it tells and word
-// 11, 4 the result of an operation and whether it is true),
-// the table (0 the worked one, 1 with its last frame twice, 2 the delay's), the words of the store, the bytes of output, from which to which of
+// What is asked (0 the answer of the case's own call, 1 the record that it wrote, 2 due flag and time of element 1 and the next due time, 3 the untrue steps
+// that it tells and word 11, 4 the result of an operation and whether it is true),
+// the table (0 the worked one, 1 with its last frame twice, 2 the delay's, 3 that of two delays, 4 the prompt one's), the words of the store, the bytes of output, from which to which of
 // CALLS come before; the case's own call, or the operation with its two words; and the six numbers that must come out.
 pub struct Row(
     pub usize,
@@ -102,7 +143,7 @@ pub struct Row(
     pub u64,
 );
 
-const ROWS: [Row; 30] = [
+const ROWS: [Row; 38] = [
     Row(0, 0, 40, 4096, 0, 0, 1, 0, 0, 0, 0, 0, 0, 0, 0),
     Row(0, 0, 40, 4096, 0, 1, 2, 10, 0, 0, 0, 0, 0, 0, 0),
     Row(0, 0, 40, 4096, 0, 2, 4, 7, 21, 0, 0, 0, 0, 0, 0),
@@ -132,13 +173,13 @@ const ROWS: [Row; 30] = [
     Row(0, 0, 39, 4096, 0, 2, 4, 11, 21, 10, 0, 0, 0, 0, 0),
     Row(0, 0, 39, 4096, 0, 2, 4, 10, 21, 0, 0, 0, 0, 0, 0),
     Row(0, 1, 39, 4096, 0, 0, 1, 0, 0, 4, 25, 0, 0, 0, 0),
-    Row(2, 2, 40, 4096, 4, 8, 0, 0, 0, 1, 150, 0, 0, 0, 0),
+    Row(2, 2, 40, 4096, 4, 8, 0, 0, 0, 1, 150, 1, 150, 0, 0),
     Row(0, 2, 40, 4096, 4, 8, 2, 150, 0, 0, 0, 0, 0, 0, 0),
     Row(0, 2, 40, 4096, 4, 8, 2, 151, 0, 8, 0, 0, 0, 0, 0),
-    Row(2, 2, 40, 4096, 4, 11, 0, 0, 0, 1, 150, 0, 0, 0, 0),
+    Row(2, 2, 40, 4096, 4, 11, 0, 0, 0, 1, 150, 1, 150, 0, 0),
     Row(0, 2, 40, 4096, 4, 11, 2, 151, 0, 8, 0, 0, 0, 0, 0),
-    Row(2, 2, 40, 4096, 4, 14, 0, 0, 0, 1, 200, 0, 0, 0, 0),
-    Row(2, 2, 40, 4096, 4, 19, 0, 0, 0, 1, 210, 0, 0, 0, 0),
+    Row(2, 2, 40, 4096, 4, 14, 0, 0, 0, 1, 200, 1, 200, 0, 0),
+    Row(2, 2, 40, 4096, 4, 19, 0, 0, 0, 1, 210, 1, 210, 0, 0),
     Row(
         4,
         0,
@@ -261,24 +302,32 @@ const ROWS: [Row; 30] = [
         0,
         0,
     ),
+    Row(2, 0, 39, 4096, 0, 3, 0, 0, 0, 0, 0, 0, 0, 0, 0),
+    Row(2, 3, 41, 4096, 19, 26, 0, 0, 0, 1, 150, 1, 150, 0, 0),
+    Row(2, 3, 41, 4096, 19, 28, 0, 0, 0, 0, 0, 1, 170, 0, 0),
+    Row(2, 3, 41, 4096, 19, 30, 0, 0, 0, 1, 170, 1, 170, 0, 0),
+    Row(0, 3, 41, 4096, 19, 30, 2, 171, 0, 8, 0, 0, 0, 0, 0),
+    Row(2, 3, 41, 4096, 19, 31, 0, 0, 0, 0, 0, 0, 0, 0, 0),
+    Row(2, 4, 41, 4096, 31, 34, 0, 0, 0, 1, 0, 1, 0, 0, 0),
+    Row(2, 4, 41, 4096, 31, 35, 0, 0, 0, 0, 0, 0, 0, 0, 0),
 ];
 
 pub fn row_at(i: usize) -> Row
-    requires { ⌜ i < 30 ⌝ }
+    requires { ⌜ i < 38 ⌝ }
     ensures { λ r. ⌜ r ≡ getD rows i noRow ⌝ }
 {
     ROWS[i]
 }
 
 pub fn call_at(i: usize) -> Call
-    requires { ⌜ i < 19 ⌝ }
+    requires { ⌜ i < 35 ⌝ }
     ensures { λ r. ⌜ r ≡ getD calls i noCall ⌝ }
 {
     CALLS[i]
 }
 
 pub fn frame_at(i: usize) -> Frame
-    requires { ⌜ i < 39 ⌝ }
+    requires { ⌜ i < 64 ⌝ }
     ensures { λ r. ⌜ r ≡ getD frames i noFrame ⌝ }
 {
     FRAMES[i]

@@ -57,6 +57,19 @@ fn untrue_title(i: usize) {
     }
 }
 
+fn next_title(i: usize) {
+    match i {
+        30 => say(b"no delay: next due"),
+        31 => say(b"two delays, started at 100 and 120: next due"),
+        32 => say(b"the earlier stopped: next due"),
+        33 => say(b"and started again, two due at one time: next due"),
+        34 => say(b"advance to 171"),
+        35 => say(b"advance to 170, both fired: next due"),
+        36 => say(b"due at 0, now 0: next due"),
+        _ => say(b"advance to 0: next due"),
+    }
+}
+
 fn title(i: usize) {
     match i {
         0..=4 => session_title(i),
@@ -65,7 +78,8 @@ fn title(i: usize) {
         20 => say(b"-2147483648 negated"),
         21 => say(b"-2147483648 divided by -1"),
         22 => say(b"-7 divided by 2"),
-        _ => untrue_title(i),
+        23..=29 => untrue_title(i),
+        _ => next_title(i),
     }
 }
 
@@ -105,7 +119,7 @@ fn point(right: bool) -> u64
 fn main() {
     let mut points = 0;
     let mut i = 0;
-    while i < 30 {
+    while i < 38 {
         let row = data::row_at(i);
         let want = Six(row.9, row.10, row.11, row.12, row.13, row.14);
         let out = ask::outcome(row);
@@ -115,5 +129,5 @@ fn main() {
         i += 1;
     }
     io::print_decimal(STDOUT_FILENO, points);
-    say(b" of 30 cases right\n");
+    say(b" of 38 cases right\n");
 }

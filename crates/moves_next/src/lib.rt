@@ -7,6 +7,7 @@ ghost use Rattle.rules_tables.specs.Good.{Good};
 ghost use Rattle.rules_tables.specs.Ids.{inputs};
 ghost use Rattle.rules_store.specs.Layout.{need};
 ghost use Rattle.rules_store.specs.Word.{currentEvent, runningOf, birthOf};
+ghost use Rattle.rules_store.specs.Earliest.{NextKept};
 ghost use Rattle.rules_moves.specs.Least.{least as «leastOf»};
 ghost use Rattle.rules_moves.specs.Record.{putOut};
 ghost use Rattle.moves_take.specs.Received.{Received};
@@ -154,7 +155,7 @@ fn take_event(
     out: &mut [u8],
     at: usize,
 ) -> usize
-    requires { ⌜ Good (now t) shape × (i < inputs shape) × (time < 2147483648) × (at + length (putOut (now t) shape i (birthOf shape (now store) i) time (now store)) ≤ length (now out)) × Indexed (now t) shape (now ix) × (need shape ≤ length (now store)) ⌝ }
+    requires { ⌜ Good (now t) shape × (i < inputs shape) × (time < 2147483648) × (at + length (putOut (now t) shape i (birthOf shape (now store) i) time (now store)) ≤ length (now out)) × Indexed (now t) shape (now ix) × NextKept shape (now store) ⌝ }
     ensures { λ r. ⌜ Received (now (t .entry)) shape i time (now (store .entry)) (now (store .exit)) (now (out .entry)) (now (out .exit)) at r ⌝ }
 {
     let born = birth_in(store, shape, i);
@@ -178,7 +179,7 @@ pub fn make(
     at: usize,
     untrue: u32,
 ) -> Moved
-    requires { ⌜ Good (now t) shape × (r ≡ runningOf (now store)) × (n ≡ nextBy (now t) shape r (now store)) × (time < 2147483648) × (at + sizeBy (now t) shape time n (now store) ≤ length (now out)) × Indexed (now t) shape (now ix) × (need shape ≤ length (now store)) × (untrue < 4294967295) ⌝ }
+    requires { ⌜ Good (now t) shape × (r ≡ runningOf (now store)) × (n ≡ nextBy (now t) shape r (now store)) × (time < 2147483648) × (at + sizeBy (now t) shape time n (now store) ≤ length (now out)) × Indexed (now t) shape (now ix) × NextKept shape (now store) × (untrue < 4294967295) ⌝ }
     ensures { λ m. ⌜ Made (now (t .entry)) shape time n (now (store .entry)) (now (store .exit)) (now (out .entry)) (now (out .exit)) at (m .place) untrue (m .untrue) ⌝ }
 {
     match n {

@@ -21,8 +21,11 @@ use Rattle.rules_tables.specs.Frame.{flagAt, fieldAt}
 use Rattle.rules_tables.specs.declared.Shape.{Shape}
 use Rattle.rules_tables.specs.Good.{Good}
 use Rattle.rules_store.specs.laws.Word.{value-sampled}
-use Rattle.rules_tables.specs.Ids.{firstInput, firstVariable, firstAssociation, inputs, variables, associations, associationFrame}
-use Rattle.rules_store.specs.Word.{value, putValue, buffer, dueFlag, putDue, birthOf, putInput}
+use Rattle.rules_tables.specs.Ids.{firstInput, firstVariable, firstAssociation, elements, inputs, variables, associations, associationFrame}
+use Rattle.rules_store.specs.Word.{value, putValue, buffer, dueFlag, birthOf, putInput}
+use Rattle.rules_store.specs.Due.{putDue}
+use Rattle.rules_store.specs.Earliest.{NextKept}
+use Rattle.rules_store.specs.laws.PutDue.{input-keeps}
 use Rattle.table_parts.specs.declared.Found.{Found}
 use Rattle.table_parts.specs.declared.Found.the-variants.{One, Missing}
 use Rattle.rules_tables.specs.Owned.{any, belongs, rank, nth, isNth}
@@ -38,6 +41,7 @@ use Rattle.rules_moves.specs.Take.{sample, samples, sampled, passTo, pass, pass
 use Rattle.rules_moves.specs.Record.{head, valueOf, values, recordOf, recordSize, putOut}
 use Rattle.moves_take.specs.Received.{Sized, Event, Received}
 use Rattle.rules_moves.specs.laws.Record.{sink-writes, others-write-none}
+use Rattle.rules_moves.specs.laws.Delays.{samples-keep}
 use Rattle.rules_moves.specs.laws.Taking.{fires-nothing}
 use Rattle.moves_take.specs.laws.Sized.{sink-sized, others-sized}
 
@@ -119,7 +123,7 @@ module _ (T : List ℕ) (S : Shape) (el : ℕ) (s : List ℕ) {r : Found} where
 
 -- ---- START finds the delay not due, or due
 module _ (T : List ℕ) (S : Shape) (el time : ℕ) (s s′ : List ℕ) {w : ℕ} (flag : w ≡ dueFlag s el) where
-  pub start-first : {d : ℕ} → w ≡ 0 → d ≡ dtOf T S el s → s′ ≡ putDue el 1 (time + d) s → s′ ≡ started T S el time s
+  pub start-first : {d : ℕ} → w ≡ 0 → d ≡ dtOf T S el s → s′ ≡ putDue S el 1 (time + d) s → s′ ≡ started T S el time s
   unfolding started
   start-first z a u = rw (choose-true _ _ _ (eq-eqb _ _ (sym flag ∙ z)), ← a) u
 
@@ -132,9 +136,13 @@ module _ (T : List ℕ) (S : Shape) (el i time : ℕ) (s s′ : List ℕ) where
   unfolding startStop isStart
   delay-start p q u = rw (choose-true _ _ _ (eq-eqb _ _ (sym p ∙ q))) u
 
-  pub delay-stop : {k : ℕ} → k ≡ rank T (firstInput S) any el i → (k ≡ 0 → ⊥) → s′ ≡ putDue el 0 0 s → s′ ≡ startStop T S el i time s
+  pub delay-stop : {k : ℕ} → k ≡ rank T (firstInput S) any el i → (k ≡ 0 → ⊥) → s′ ≡ putDue S el 0 0 s → s′ ≡ startStop T S el i time s
   unfolding startStop isStart
   delay-stop p q u = rw (choose-false _ _ _ (ne-eqb _ _ (λ h. q (p ∙ h)))) u
+
+-- the event that is taken leaves the next due time
+pub sampled-kept : (T : List ℕ) (S : Shape) (i : ℕ) (s : List ℕ) {s₁ s₂ : List ℕ} → NextKept S s → s₁ ≡ putInput S i 0 0 0 s → s₂ ≡ samples T S i s₁ → NextKept S s₂
+sampled-kept T S i s k p q = rw (q, p) (samples-keep T S i (putInput S i 0 0 0 s) (input-keeps S s k i 0 0 0))
 
 -- ---- how much an event input writes, by the element's sort
 module _ (T : List ℕ) (S : Shape) (i : ℕ) {el : ℕ} (owner : el ≡ inputOwner T S i) where
@@ -197,8 +205,11 @@ module _ (T : List ℕ) (S : Shape) (i time : ℕ) (s o : List ℕ) (at : ℕ) {
   pub record-fits : (room : ℕ) → sort ≡ sink → at + length (putOut T S i birth time s) ≤ room → at + recordSize T S i ≤ room
   record-fits room k h = rw (sink-sized T S i (sym (e .sort-is) ∙ k) .bytes-are birth time s) at h
 
+  pub element-in : Good T S → i < inputs S → el < elements S
+  element-in g l = let h = g .input-element i l in let z = e .element-is in omega arith
+
   pub element-small : Good T S → i < inputs S → el < 65536
-  element-small g l = let h = g .input-element i l in let z = e .element-is in omega arith
+  element-small g l = let h = element-in g l in omega (arith, g .few-elements)
 
 -- how many values a record has, as the rank among the associations
 pub values-many : (T : List ℕ) (S : Shape) (i : ℕ) {r m : ℕ} → r ≡ rank T (firstAssociation S) ofInput i m → m ≡ associations S → r ≡ countIf (speaks T S (voice ofInput i)) (associations S)

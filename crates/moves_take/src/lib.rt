@@ -7,10 +7,10 @@ ghost use Rattle.numbers.specs.Bounded.{Bounded};
 ghost use Rattle.rules_tables.specs.Kind.{interface, ofInput};
 ghost use Rattle.rules_tables.specs.Frame.{flagAt};
 ghost use Rattle.rules_tables.specs.Good.{Good};
-ghost use Rattle.rules_tables.specs.Ids.{inputs, variables, associations as «associationsOf»};
+ghost use Rattle.rules_tables.specs.Ids.{elements, inputs, variables, associations as «associationsOf»};
 ghost use Rattle.store_words.specs.Small.{Small};
-ghost use Rattle.rules_store.specs.Layout.{need};
 ghost use Rattle.rules_store.specs.Word.{value, putValue, buffer};
+ghost use Rattle.rules_store.specs.Earliest.{NextKept};
 ghost use Rattle.rules_moves.specs.Partner.{inputOwner, partnerOutput, partnerVariable};
 ghost use Rattle.rules_moves.specs.Carry.{voice, speaks};
 ghost use Rattle.table_index.specs.Index.{Indexed};
@@ -28,12 +28,12 @@ use numbers::word::ticks;
 use rules_moves::Voice;
 use rules_store::Running;
 use rules_tables::Shape;
+use store_words::due::put_due;
 use store_words::shape::association_frame;
 use store_words::shape::associations;
 use store_words::shape::variables as variables_of;
 use store_words::word::buffer_of;
 use store_words::word::due_flag;
-use store_words::word::put_due;
 use store_words::word::put_input_in;
 use store_words::word::put_owner;
 use store_words::word::put_running;
@@ -148,25 +148,25 @@ fn dt_of(t: &[u8], store: &[u32], shape: Shape, el: usize) -> u32
 
 // A START sets due to now + DT. One that finds the delay due comes before the output of the first, and leaves it.
 fn start(t: &[u8], store: &mut [u32], shape: Shape, el: usize, time: u32)
-    requires { ⌜ Good (now t) shape × (el < 65536) × (time < 2147483648) ⌝ }
+    requires { ⌜ Good (now t) shape × (el < elements shape) × (time < 2147483648) × NextKept shape (now store) ⌝ }
     ensures { λ _. ⌜ now (store .exit) ≡ started (now (t .entry)) shape el time (now (store .entry)) ⌝ }
 {
     if due_flag(store, el) == 0 {
         let dt = dt_of(t, store, shape, el);
-        put_due(store, el, 1, time + dt);
+        put_due(store, shape, el, 1, time + dt);
     }
 }
 
 // Delay: START, the first event input, or STOP, which clears it.
 fn start_stop(t: &[u8], store: &mut [u32], shape: Shape, el: usize, i: usize, time: u32)
-    requires { ⌜ Good (now t) shape × (i < inputs shape) × (el < 65536) × (time < 2147483648) ⌝ }
+    requires { ⌜ Good (now t) shape × (i < inputs shape) × (el < elements shape) × (time < 2147483648) × NextKept shape (now store) ⌝ }
     ensures { λ _. ⌜ now (store .exit) ≡ startStop (now (t .entry)) shape el i time (now (store .entry)) ⌝ }
 {
     if rank(t, shape.elements_end, ANY, el, i) == 0 {
         start(t, store, shape, el, time);
         return;
     }
-    put_due(store, el, 0, 0);
+    put_due(store, shape, el, 0, 0);
 }
 
 // Basic: mode 1, live.
@@ -194,7 +194,7 @@ pub fn receive(
     out: &mut [u8],
     at: usize,
 ) -> usize
-    requires { ⌜ Good (now t) shape × (i < inputs shape) × Event (now t) shape (now store) i sort el birth last × (time < 2147483648) × (at + length (putOut (now t) shape i birth time (now store)) ≤ length (now out)) × Indexed (now t) shape (now ix) × (need shape ≤ length (now store)) ⌝ }
+    requires { ⌜ Good (now t) shape × (i < inputs shape) × Event (now t) shape (now store) i sort el birth last × (time < 2147483648) × (at + length (putOut (now t) shape i birth time (now store)) ≤ length (now out)) × Indexed (now t) shape (now ix) × NextKept shape (now store) ⌝ }
     ensures { λ r. ⌜ Received (now (t .entry)) shape i time (now (store .entry)) (now (store .exit)) (now (out .entry)) (now (out .exit)) at r ⌝ }
 {
     put_input_in(store, shape, i, 0, 0, 0);

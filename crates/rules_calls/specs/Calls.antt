@@ -13,7 +13,8 @@ use Rattle.rules_tables.specs.Kind.{source, ofOutput}
 use Rattle.rules_tables.specs.Frame.{flagAt, fieldAt}
 use Rattle.rules_tables.specs.declared.Shape.{Shape}
 use Rattle.rules_tables.specs.Ids.{elements, firstOutput, outputs, associations, associationFrame}
-use Rattle.rules_store.specs.Word.{largestTime, nowOf, putNow, dueFlag, dueTime, putDue, putValue}
+use Rattle.rules_store.specs.Word.{largestTime, nowOf, putNow, dueFlag, dueTime, putValue}
+use Rattle.rules_store.specs.Due.{dueAt, putDue}
 use Rattle.rules_tables.specs.Owned.{any, nth}
 use Rattle.rules_moves.specs.Partner.{outputOwner}
 use Rattle.rules_moves.specs.Carry.{voice, speaks}
@@ -21,12 +22,9 @@ use Rattle.rules_moves.specs.Fire.{fire}
 use Rattle.rules_moves.specs.Take.{fireFound}
 
 -- ---- "Advance to t sets now, then fires, with birth t, each delay due at t and clears it."
-unfoldable pub dueAt : List ℕ → ℕ → ℕ → Bool
-dueAt s t el = both (not (eqb (dueFlag s el) 0)) (eqb (dueTime s el) t)
-
 -- delay el fires, with birth t, and is cleared; it has one event output
 unfoldable pub expired : List ℕ → Shape → ℕ → ℕ → List ℕ → List ℕ
-expired T S t el s = putDue el 0 0 (fireFound T S (nth T (firstOutput S) (outputs S) any el 0) t t s)
+expired T S t el s = putDue S el 0 0 (fireFound T S (nth T (firstOutput S) (outputs S) any el 0) t t s)
 
 -- element el, if it is due at t
 unfoldable pub expire : List ℕ → Shape → ℕ → ℕ → List ℕ → List ℕ

@@ -15,7 +15,8 @@ use Rattle.rules_moves.specs.declared.Next.the-variants.{Take, Change, Idle, St
 use Rattle.rules_moves.specs.Act.{eventOf}
 use Rattle.rules_moves.specs.Next.{nextOf}
 use Rattle.rules_calls.specs.Run.{after}
-use Rattle.rules_calls.specs.Calls.{dueAt, expire, give}
+use Rattle.rules_calls.specs.Calls.{expire, give}
+use Rattle.rules_store.specs.Due.{dueAt}
 
 -- how an event is fired: it begins a chain, with this birth, or goes on the chain of the event that was taken last
 pub data How : Type 0 where

@@ -12,7 +12,8 @@ use Rattle.rules_tables.specs.Frame.{flagAt, fieldAt}
 use Rattle.rules_tables.specs.declared.Shape.{Shape}
 use Rattle.rules_tables.specs.Ids.{firstInput, firstVariable, variables, associations, associationFrame}
 use Rattle.rules_store.specs.Running.{awake}
-use Rattle.rules_store.specs.Word.{putOwner, putRunning, dueFlag, putDue, birthOf, putInput, value, putValue, buffer}
+use Rattle.rules_store.specs.Word.{putOwner, putRunning, dueFlag, birthOf, putInput, value, putValue, buffer}
+use Rattle.rules_store.specs.Due.{putDue}
 use Rattle.rules_tables.specs.Owned.{any, rank, nth}
 use Rattle.rules_moves.specs.Partner.{inputOwner, partnerOutput, partnerVariable}
 use Rattle.rules_moves.specs.Carry.{voice, speaks}
@@ -59,10 +60,10 @@ isStart T S el i = eqb (rank T (firstInput S) any el i) 0
 
 -- document 02, A3: it "counts from the first START, and later ones before the output have no effect". So a START that finds the delay due leaves it as it is
 unfoldable pub started : List ℕ → Shape → ℕ → ℕ → List ℕ → List ℕ
-started T S el time s = choose (eqb (dueFlag s el) 0) (putDue el 1 (time + dtOf T S el s) s) s
+started T S el time s = choose (eqb (dueFlag s el) 0) (putDue S el 1 (time + dtOf T S el s) s) s
 
 unfoldable pub startStop : List ℕ → Shape → ℕ → ℕ → ℕ → List ℕ → List ℕ
-startStop T S el i time s = choose (isStart T S el i) (started T S el time s) (putDue el 0 0 s)
+startStop T S el i time s = choose (isStart T S el i) (started T S el time s) (putDue S el 0 0 s)
 
 -- "Basic: mode 1, live."
 unfoldable pub wake : ℕ → ℕ → ℕ → List ℕ → List ℕ

@@ -6,8 +6,9 @@ use lib.ListN.{length, getD}
 use Rattle.rules_tables.specs.declared.Shape.{Shape}
 use Rattle.rules_tables.specs.Ids.{elements, inputs, variables}
 use Rattle.rules_store.specs.Layout.{need}
+use Rattle.rules_store.specs.Due.{nothingDue}
 use Rattle.rules_store.specs.Running.{rest}
-use Rattle.rules_store.specs.Word.{nowOf, runningElement, currentEvent, runningOf, untrue, spares, spareWord, chartState, dueFlag, dueTime, waiting, birthOf, lastUpdate, buffer}
+use Rattle.rules_store.specs.Word.{nowOf, runningElement, currentEvent, runningOf, nextDue, untrue, spares, spareWord, chartState, dueFlag, dueTime, waiting, birthOf, lastUpdate, buffer}
 
 pub record Zeroed (s : List ℕ) (n : ℕ) (x : List ℕ) : Type 0 where
   pub long : length x ≡ length s
@@ -18,6 +19,7 @@ pub record Blank (S : Shape) (x : List ℕ) : Type 0 where
   pub long : need S ≤ length x
   pub now : nowOf x ≡ 0
   pub untrue-none : untrue x ≡ 0
+  pub next : nextDue x ≡ nothingDue
   pub spare : (j : ℕ) → j < spares → spareWord x j ≡ 0
   pub element : runningElement x ≡ 0
   pub event : currentEvent x ≡ 0

@@ -10,7 +10,8 @@ use Rattle.rules_tables.specs.declared.Shape.{Shape}
 use Rattle.rules_store.specs.declared.Running.{Running}
 use Rattle.rules_tables.specs.Ids.{elements, inputs, variables, inputFrame, variableFrame}
 use Rattle.rules_store.specs.Layout.{need}
-use Rattle.rules_store.specs.Word.{largestDue, largestTime, nowOf, runningElement, currentEvent, runningOf, spares, spareWord, chartState, dueFlag, dueTime, waiting, birthOf, lastUpdate, buffer}
+use Rattle.rules_store.specs.Word.{largestDue, largestTime, nowOf, runningElement, currentEvent, runningOf, nextDue, spares, spareWord, chartState, dueFlag, dueTime, waiting, birthOf, lastUpdate, buffer}
+use Rattle.rules_store.specs.Due.{earliest}
 use Rattle.rules_tables.specs.Actions.{actionOf}
 use Rattle.rules_store.specs.WellFormed.{stepOk}
 use Rattle.rules_tables.specs.Lawful.{StateOf}
@@ -37,6 +38,7 @@ pub record Parts (T : List ℕ) (S : Shape) (s : List ℕ) : Type 0 where
   pub long : need S ≤ length s
   pub in-time : nowOf s ≤ largestTime
   pub spare : (j : ℕ) → j < spares → spareWord s j ≡ 0
+  pub next : nextDue s ≡ earliest s (elements S)
   pub charts : (el : ℕ) → el < elements S → ChartFact T S s el
   pub dues : (el : ℕ) → el < elements S → DueFact T s el
   pub events : (i : ℕ) → i < inputs S → InputFact S s i

@@ -1,4 +1,6 @@
 pub mod Blank
+pub mod Due
+pub mod Earliest
 pub mod Formed
 pub mod Kept
 pub mod Layout

@@ -10,10 +10,10 @@ use Rattle.rules_tables.specs.Frame.{flagAt}
 use Rattle.rules_tables.specs.declared.Shape.{Shape}
 use Rattle.rules_tables.specs.Ids.{elements, inputs, variables, variableFrame}
 use Rattle.rules_store.specs.Layout.{need}
-use Rattle.rules_store.specs.Word.{nowOf, runningElement, currentEvent, runningOf, overwritten, untrue, spares, spareWord, chartState, dueFlag, dueTime, waiting, birthOf, lastUpdate, value, buffer}
+use Rattle.rules_store.specs.Word.{nowOf, runningElement, currentEvent, runningOf, overwritten, nextDue, untrue, spares, spareWord, chartState, dueFlag, dueTime, waiting, birthOf, lastUpdate, value, buffer}
 
--- now; the running block with its element and event; the overwritten count; the count of untrue steps; the chart states; the due flags and times; the event
--- inputs; the values of input variables; the values of output and internal variables; the buffers. Every word of the need is of one part, but for the spare ones
+-- now; the running block with its element and event; the overwritten count; the count of untrue steps; the chart states; the due flags and times, with the next due
+-- time; the event inputs; the values of input variables; the values of output and internal variables; the buffers. Every word of the need is of one part, but for the spare ones
 pub data Part : Type 0 where
   time : Part
   block : Part
@@ -87,6 +87,7 @@ pub record Leaves (T : List ℕ) (S : Shape) (touched : Part → Bool) (s s′ :
   pub untrue-same : touched untrues ≡ false → untrue s′ ≡ untrue s
   pub charts : touched chart ≡ false → (el : ℕ) → el < elements S → chartState s′ el ≡ chartState s el
   pub dues : touched due ≡ false → (el : ℕ) → el < elements S → SameDue s s′ el
+  pub next-same : touched due ≡ false → nextDue s′ ≡ nextDue s
   pub waits : touched input ≡ false → (i : ℕ) → i < inputs S → SameInput S s s′ i
   pub values : touched sampled ≡ false → (v : ℕ) → v < variables S → flagAt T (variableFrame S v) ≡ 0 → value S s′ v ≡ value S s v
   pub results : touched computed ≡ false → (v : ℕ) → v < variables S → (flagAt T (variableFrame S v) ≡ 0 → ⊥) → value S s′ v ≡ value S s v

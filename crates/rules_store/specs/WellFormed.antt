@@ -8,15 +8,24 @@ use Rattle.rules_walks.specs.First.{Sought, one, missing}
 use Rattle.rules_tables.specs.Kind.{basic, delay, input}
 use Rattle.rules_tables.specs.Frame.{Table, flagAt, fieldAt}
 use Rattle.rules_tables.specs.declared.Shape.{Shape}
+use Rattle.rules_store.specs.declared.NextDue.{NextDue}
 use Rattle.rules_store.specs.declared.Running.{Running}
 use Rattle.rules_tables.specs.Ids.{elements, inputs, variables, states, inputFrame, variableFrame, stateFrame, actionFrame}
 use Rattle.rules_store.specs.Running.{idle, charts, acts}
-use Rattle.rules_store.specs.Word.{Store, largestTime, largestDue, nowOf, runningElement, currentEvent, runningOf, spares, spareWord, chartState, dueFlag, dueTime, waiting, birthOf, lastUpdate, buffer}
+use Rattle.rules_store.specs.Word.{Store, largestTime, largestDue, nowOf, runningElement, currentEvent, runningOf, nextDue, spares, spareWord, chartState, dueFlag, dueTime, waiting, birthOf, lastUpdate, buffer}
+use Rattle.rules_store.specs.Due.{earliest}
 use Rattle.rules_tables.specs.Actions.{actionOf}
 
--- "Words 9 to 15 zero.", but for word 11, which counts: any word is well formed there, as in word 8
+-- "Words 9 to 15 zero.", but for 9 and 10, which tell the next due time, and 11, which counts: any word is well formed there, as in word 8
 unfoldable pub spareOk : Store → (j : ℕ) → Bool
 spareOk s j = eqb (spareWord s j) 0
+
+-- document 02, A5: "a store in which it is wrong is not well formed". It is right where it is the answer found by looking
+unfoldable pub isNext : (stored found : NextDue) → Bool
+isNext stored found = both (eqb (stored .due) (found .due)) (eqb (stored .time) (found .time))
+
+unfoldable pub nextOk : Shape → Store → Bool
+nextOk S s = isNext (nextDue s) (earliest s (elements S))
 
 -- "idle means words 1 to 7 zero"; r is the running block
 unfoldable pub restOk : Running → Store → Bool
@@ -87,4 +96,5 @@ unfoldable pub wellFormed : Table → Shape → Store → Bool
 wellFormed T S s =
     both (leb (nowOf s) largestTime)
     (both (allTo (spareOk s) spares)
-    (both (runningOk T S (runningOf s) s) (partsOk T S s)))
+    (both (nextOk S s)
+    (both (runningOk T S (runningOf s) s) (partsOk T S s))))

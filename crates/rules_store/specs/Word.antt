@@ -1,12 +1,13 @@
 -- The words of the store by name: one reader and one writer each. "Words 0 to 8: now; running element plus 1, or 0; current event plus 1, or 0; its birth;
--- mode (0 idle, 1 charts, 2 acts); live flag; action number; step number; overwritten count". "Word 11 counts untrue steps since load". A place past the
--- store's end reads 0 and is not written.
+-- mode (0 idle, 1 charts, 2 acts); live flag; action number; step number; overwritten count". "Word 9 tells whether a due flag is set, word 10 the earliest time
+-- or 0." "Word 11 counts untrue steps since load". A place past the store's end reads 0 and is not written.
 use Prim.Native.Nat.{ℕ, _+_}
 use mathlib.Core.List.{List}
 use lib.Dec.{eqb, ltb}
 use lib.ListN.{getD, set}
 use Rattle.rules_walks.specs.Pick.{pick}
 use Rattle.rules_tables.specs.declared.Shape.{Shape}
+use Rattle.rules_store.specs.declared.NextDue.{NextDue}
 use Rattle.rules_store.specs.declared.Running.{Running}
 use Rattle.rules_store.specs.Layout.{elementAt, inputAt, variableAt}
 
@@ -59,6 +60,13 @@ overwritten s = getD s 8 0
 unfoldable pub putOverwritten : (n : ℕ) → Store → Store
 putOverwritten n s = set s 8 n
 
+-- the next due time, as the store has it: "word 9 tells whether a due flag is set, word 10 the earliest time or 0"
+unfoldable pub nextDue : Store → NextDue
+nextDue s = record { due = getD s 9 0; time = getD s 10 0 }
+
+unfoldable pub putNext : NextDue → Store → Store
+putNext a s = set (set s 9 (a .due)) 10 (a .time)
+
 -- the count of untrue steps
 unfoldable pub untrue : Store → ℕ
 untrue s = getD s 11 0
@@ -66,12 +74,12 @@ untrue s = getD s 11 0
 unfoldable pub putUntrue : (n : ℕ) → Store → Store
 putUntrue n s = set s 11 n
 
--- "Words 9 to 15 zero.", but for word 11
+-- "Words 9 to 15 zero.", but for words 9, 10 and 11
 abbrev pub spares : ℕ
-spares = 6
+spares = 4
 
 unfoldable pub spareAt : (j : ℕ) → ℕ
-spareAt j = pick (ltb j 2) (9 + j) (10 + j)
+spareAt j = 12 + j
 
 unfoldable pub spareWord : Store → (j : ℕ) → ℕ
 spareWord s j = getD s (spareAt j) 0
@@ -89,8 +97,9 @@ dueFlag s el = getD s (elementAt el + 1) 0
 unfoldable pub dueTime : Store → (el : ℕ) → ℕ
 dueTime s el = getD s (elementAt el + 2) 0
 
-unfoldable pub putDue : (el flag time : ℕ) → Store → Store
-putDue el flag time s = set (set s (elementAt el + 1) flag) (elementAt el + 2) time
+-- the two words of the element alone: `putDue` (Due), the one writer of due words, sets them by this and keeps the next due time
+unfoldable pub setDue : (el flag time : ℕ) → Store → Store
+setDue el flag time s = set (set s (elementAt el + 1) flag) (elementAt el + 2) time
 
 -- ---- per event input
 unfoldable pub waiting : Shape → Store → (i : ℕ) → ℕ

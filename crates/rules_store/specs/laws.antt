@@ -1,9 +1,11 @@
 pub mod Blank
+pub mod Due
 pub mod Examples
 pub mod Kept
 pub mod Load
 pub mod Own
 pub mod Part
+pub mod PutDue
 pub mod Spare
 pub mod WellFormed
 pub mod Word

@@ -19,6 +19,12 @@ pub struct Running {
     pub step: u32,
 }
 
+// The next due time: 1 and the earliest due time where something is due, else 0 and 0.
+pub struct NextDue {
+    pub due: u32,
+    pub time: u32,
+}
+
 impl Running {
     // Idle.
     pub fn rest() -> Self

@@ -7,6 +7,7 @@ ghost use Rattle.rules_tables.specs.Good.{Good};
 ghost use Rattle.rules_tables.specs.Ids.{elements as «elementsOf», inputs as «inputsOf», variables as «variablesOf»};
 ghost use Rattle.store_words.specs.Small.{Small};
 ghost use Rattle.rules_store.specs.WellFormed.{chartOk, dueOk, elementOk, inputOk, variableOk, partsOk, wellFormed};
+use crate::header::next_ok;
 use crate::header::running_ok;
 use crate::header::spares_ok;
 use numbers::word::wide;
@@ -186,6 +187,9 @@ pub fn well_formed(t: &[u8], store: &[u32], shape: Shape) -> bool
         return false;
     }
     if !spares_ok(store) {
+        return false;
+    }
+    if !next_ok(store, shape) {
         return false;
     }
     if !running_ok(t, store, shape, running(store)) {

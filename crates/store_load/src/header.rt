@@ -1,10 +1,11 @@
-// Whether the first words of a store are well formed: the running block.
+// Whether the first words of a store are well formed: the spare words, the next due time, the running block.
 ghost use mathlib.Core.Path.{_≡_};
 ghost use Rattle.rules_walks.specs.All.{allTo};
 ghost use Rattle.rules_tables.specs.Good.{Good};
 ghost use Rattle.rules_tables.specs.Actions.{actionOf};
 ghost use Rattle.rules_store.specs.Word.{spares};
-ghost use Rattle.rules_store.specs.WellFormed.{spareOk, restOk, ownerOk, stepOk, modeOk, runningOk};
+ghost use Rattle.store_words.specs.Small.{Small};
+ghost use Rattle.rules_store.specs.WellFormed.{spareOk, nextOk, restOk, ownerOk, stepOk, modeOk, runningOk};
 use numbers::word::wide;
 use rules_store::ACTS;
 use rules_store::CHARTS;
@@ -12,6 +13,7 @@ use rules_store::IDLE;
 use rules_store::Running;
 use rules_tables::Shape;
 use store_words::actions::action_of;
+use store_words::due::earliest;
 use store_words::shape::action_frame;
 use store_words::shape::elements;
 use store_words::shape::input_frame;
@@ -19,6 +21,7 @@ use store_words::shape::inputs;
 use store_words::word::SPARES;
 use store_words::word::chart_state;
 use store_words::word::current_event;
+use store_words::word::next_due;
 use store_words::word::running_element;
 use store_words::word::spare;
 use store_words::word::time;
@@ -27,7 +30,7 @@ use table_frames::frame::flag;
 use table_frames::kind::BASIC;
 use table_parts::Found;
 
-// Words 9, 10 and 12 to 15 are zero.
+// Words 12 to 15 are zero.
 pub fn spares_ok(store: &[u32]) -> bool
     ensures { λ r. ⌜ r ≡ allTo (spareOk (now (store .entry))) spares ⌝ }
 {
@@ -39,6 +42,19 @@ pub fn spares_ok(store: &[u32]) -> bool
         j += 1;
     }
     true
+}
+
+// The next due time is the one found by looking.
+pub fn next_ok(store: &[u32], shape: Shape) -> bool
+    requires { ⌜ Small shape ⌝ }
+    ensures { λ r. ⌜ r ≡ nextOk shape (now (store .entry)) ⌝ }
+{
+    let stored = next_due(store);
+    let found = earliest(store, elements(shape));
+    if stored.due != found.due {
+        return false;
+    }
+    stored.time == found.time
 }
 
 // Idle: words 1 to 7 are zero.

@@ -1,2 +1,3 @@
+pub mod Due
 pub mod Small
 pub mod laws

@@ -1,3 +1,4 @@
+pub mod Due
 pub mod Found
 pub mod Running
 pub mod Small

@@ -9,8 +9,9 @@ ghost use Rattle.rules_tables.specs.Ids.{inputs as «inputsOf», variables as �
 ghost use Rattle.rules_store.specs.Layout.{need, elementAt, inputAt, variableAt};
 ghost use Rattle.rules_store.specs.Running.{stepped, charting, entered};
 ghost use Rattle.store_words.specs.Small.{Small};
-ghost use Rattle.rules_store.specs.Word.{counted as «countedOf», spares, spareAt, nowOf, putNow, runningElement, currentEvent, putOwner, runningOf, putRunning, overwritten, putOverwritten, untrue, putUntrue, spareWord, chartState, putChartState, dueFlag, dueTime, putDue, waiting, birthOf, lastUpdate, putInput, value, putValue, buffer, putBuffer};
+ghost use Rattle.rules_store.specs.Word.{counted as «countedOf», spares, spareAt, nowOf, putNow, runningElement, currentEvent, putOwner, runningOf, putRunning, overwritten, putOverwritten, nextDue, putNext, untrue, putUntrue, spareWord, chartState, putChartState, dueFlag, dueTime, setDue, waiting, birthOf, lastUpdate, putInput, value, putValue, buffer, putBuffer};
 use crate::shape::inputs;
+use rules_store::NextDue;
 use rules_store::Running;
 use rules_tables::Shape;
 
@@ -152,6 +153,24 @@ pub fn put_overwritten(store: &mut [u32], x: u32)
     put(store, 8, x);
 }
 
+// The next due time, as the store has it.
+pub fn next_due(store: &[u32]) -> NextDue
+    ensures { λ r. ⌜ r ≡ nextDue (now (store .entry)) ⌝ }
+{
+    NextDue {
+        due: word(store, 9),
+        time: word(store, 10),
+    }
+}
+
+// Sets it. For the writer of due words alone (due::put_due).
+pub fn put_next(store: &mut [u32], next: NextDue)
+    ensures { λ _. ⌜ now (store .exit) ≡ putNext next (now (store .entry)) ⌝ }
+{
+    put(store, 9, next.due);
+    put(store, 10, next.time);
+}
+
 // The count of untrue steps.
 pub fn untrue_count(store: &[u32]) -> u32
     ensures { λ r. ⌜ r ≡ untrue (now (store .entry)) ⌝ }
@@ -166,15 +185,15 @@ pub fn put_untrue(store: &mut [u32], x: u32)
     put(store, 11, x);
 }
 
-// The words that are zero: 9, 10, 12 to 15.
-pub const SPARES: usize = 6;
+// The words that are zero: 12 to 15.
+pub const SPARES: usize = 4;
 
 // Where word j of them lies.
 fn spare_at(j: usize) -> usize
     requires { ⌜ j < spares ⌝ }
     ensures { λ r. ⌜ r ≡ spareAt j ⌝ }
 {
-    if j < 2 { 9 + j } else { 10 + j }
+    12 + j
 }
 
 // What it holds.
@@ -241,10 +260,10 @@ pub fn due_time(store: &[u32], el: usize) -> u32
     word(store, element_at(el) + 2)
 }
 
-// Sets both.
-pub fn put_due(store: &mut [u32], el: usize, flag: u32, time: u32)
+// Sets both. For the writer of due words alone (due::put_due).
+pub fn set_due(store: &mut [u32], el: usize, flag: u32, time: u32)
     requires { ⌜ el < 4294967296 ⌝ }
-    ensures { λ _. ⌜ now (store .exit) ≡ putDue el flag time (now (store .entry)) ⌝ }
+    ensures { λ _. ⌜ now (store .exit) ≡ setDue el flag time (now (store .entry)) ⌝ }
 {
     let at = element_at(el);
     put(store, at + 1, flag);

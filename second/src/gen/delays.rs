@@ -2,12 +2,13 @@
 //! delay to a sink, calls that bring STARTs while it is due and after, and
 //! states in which a START waits.
 
+use super::due::delays_of;
 use super::rng::Rng;
 use super::script::Script;
 use super::skeleton::{field, Skeleton};
 use super::wiring::Associated;
 use crate::lines::OUTPUT_BYTES;
-use crate::model::{ElementKind, Model};
+use crate::model::Model;
 use crate::store::{Mode, State, Waiting, GREATEST_DUE, GREATEST_TIME};
 use crate::table::{element_flag, role};
 use crate::watch::{Cleared, Sight, Watch};
@@ -258,9 +259,7 @@ impl Script<'_> {
 /// Makes a START wait, mostly of a delay that is due, with a DT in its buffer
 /// that makes a difference; `None` if there is no delay.
 pub fn put_before_start(rng: &mut Rng, model: &Model, state: &mut State) -> Option<()> {
-    let is_delay = |&id: &usize| model.elements[id].kind == ElementKind::Delay;
-    let delays: Vec<usize> = (0..model.elements.len()).filter(is_delay).collect();
-    let delay = rng.pick_any(&delays)?;
+    let delay = rng.pick_any(&delays_of(model))?;
     state.mode = Mode::Idle;
     if rng.chance(50) {
         state.waiting.fill(None);

@@ -3,6 +3,7 @@
 mod charts;
 mod damage;
 mod delays;
+mod due;
 pub mod faults;
 pub mod requests;
 pub mod rng;

@@ -2,10 +2,12 @@
 //! the other on a store that grows out of them, and beside each a call on a
 //! copy of that store, whole, spoiled or cut, or on any words, with the table or
 //! a damaged one, or a run of a block put before one of its steps, or of a delay
-//! before a START. The count of untrue steps is any. Traces of the runs are read,
+//! before a START, or a call among delays that are due, with a next due time that
+//! is right or not. The count of untrue steps is any. Traces of the runs are read,
 //! whole, cut and damaged.
 
 use super::delays::put_before_start;
+use super::due::{delays_of, put_among_due, put_wrong_due, time_near_next};
 use super::faults::{faulty_line, good_line};
 use super::rng::Rng;
 use super::session;
@@ -14,6 +16,7 @@ use crate::calls::Checked;
 use crate::host::{Call, Request};
 use crate::lines::{self, calls_of_lines, lines_of, part, table_of_lines, text_of, OUTPUT_BYTES};
 use crate::model::Model;
+use crate::next_due::WrongDue;
 use crate::reader::Fault;
 use crate::store::{self, need, word, State};
 use crate::table::{kind, FRAME_BYTES};
@@ -34,8 +37,8 @@ pub fn requests(seed: u64, round: u64, made: &mut impl FnMut(Request) -> Vec<u32
     // Of a table that is refused, a few calls tell all.
     let (need, most) = checked.model().map_or((30, 5), |model| (need(model), usize::MAX));
     let latest = Scene { store: vec![0; need], text: Vec::new() };
-    let (rng, faults) = (Rng::new(!seed, round), 3 * (round % 1000) as usize);
-    let mut draw = Draw { rng, table, checked, need, latest, faults };
+    let (rng, turn) = (Rng::new(!seed, round), 3 * (round % 1000) as usize);
+    let mut draw = Draw { rng, table, checked, need, latest, faults: turn, wrong: turn };
     let mut store = draw.any_store();
     for call in [Call::Check, Call::Need, draw.view(), draw.view(), draw.view()] {
         made(draw.request(store.clone(), call));
@@ -53,6 +56,9 @@ pub fn requests(seed: u64, round: u64, made: &mut impl FnMut(Request) -> Vec<u32
             if let Some(request) = draw.run_from(&store, percent, put) {
                 made(request);
             }
+        }
+        for request in draw.calls_among_due(&store) {
+            made(request);
         }
         if draw.rng.chance(20) {
             made(draw.reading());
@@ -77,6 +83,8 @@ struct Draw {
     latest: Scene,
     /// How many lines were made faulty, counted on from round to round.
     faults: usize,
+    /// The same of wrong next due times.
+    wrong: usize,
 }
 
 impl Draw {
@@ -288,13 +296,50 @@ impl Draw {
         Some(self.request(words, call))
     }
 
+    /// Calls among due delays, more of them where there are several delays.
+    fn calls_among_due(&mut self, store: &[u32]) -> Vec<Request> {
+        let delays = self.checked.model().map_or(0, |model| delays_of(model).len());
+        (0..delays.min(3)).filter_map(|_| self.call_among_due(store, 40)).collect()
+    }
+
+    /// Now and then a run or an advance on a store in which delays are due, or a
+    /// call on one in which words 9 and 10 are wrong.
+    fn call_among_due(&mut self, store: &[u32], percent: usize) -> Option<Request> {
+        let model = self.checked.model().filter(|_| self.rng.chance(percent))?;
+        let mut state = store::read(model, store)?;
+        let mut words = store.to_vec();
+        if self.rng.chance(30) {
+            // In turn, over the rounds too, so that few rounds have all.
+            let way = WrongDue::ALL[self.wrong % WrongDue::ALL.len()];
+            self.wrong += 1;
+            let wrong = put_wrong_due(&mut self.rng, model, &mut state, way)?;
+            store::write(model, &state, &mut words);
+            words[word::DUE..=word::NEXT_DUE].copy_from_slice(&wrong);
+            let call = self.any_judging_call(&words);
+            return Some(self.request(words, call));
+        }
+        put_among_due(&mut self.rng, model, &mut state)?;
+        store::write(model, &state, &mut words);
+        let call = if self.rng.chance(50) {
+            Call::Advance { to: time_near_next(&mut self.rng, &state) }
+        } else {
+            let budget = self.rng.pick(&[1, 1, 1, 30]);
+            self.any_run(budget, &words)
+        };
+        Some(self.request(words, call))
+    }
+
     /// Changes a word: to any, to one near it, or to another's. The count of
     /// untrue steps may be any, so that word is passed over.
     fn spoil(&mut self, words: &mut [u32]) {
         let end = self.rng.pick(&[word::FIRST_PART, words.len(), words.len()]);
         let mut places: Vec<usize> = (0..end).filter(|&place| place != word::UNTRUE).collect();
-        // The few that are always to be zero come more often.
-        places.extend([word::ZEROS; 2].concat());
+        // The few that are always to be zero, or what other words say, come more
+        // often.
+        for _ in 0..3 {
+            places.extend([word::DUE, word::NEXT_DUE]);
+            places.extend(word::ZEROS);
+        }
         let place = self.rng.pick(&places);
         words[place] = match self.rng.below(4) {
             0 => words[place].wrapping_add(1),
@@ -330,18 +375,25 @@ impl Draw {
             0 => Call::Check,
             1 => Call::Need,
             2 => Call::Load,
-            3..=4 => Call::Advance { to: self.any_time(store) },
-            5..=6 => Call::Arrival {
+            3..=11 => self.any_judging_call(store),
+            12..=13 => self.any_reading(),
+            _ => self.view(),
+        }
+    }
+
+    /// A call that asks whether the store is well formed.
+    fn any_judging_call(&mut self, store: &[u32]) -> Call {
+        match self.rng.below(9) {
+            0..=1 => Call::Advance { to: self.any_time(store) },
+            2..=3 => Call::Arrival {
                 event: self.any_number(9),
                 birth: self.any_time(store),
                 values: (0..self.rng.below(4)).map(|_| self.rng.value(false)).collect(),
             },
-            7..=11 => {
+            _ => {
                 let budget = self.rng.below(60) as u32;
                 self.any_run(budget, store)
             }
-            12..=13 => self.any_reading(),
-            _ => self.view(),
         }
     }
 
@@ -385,7 +437,7 @@ mod tests {
         let table = Vec::new();
         let (rng, checked) = (Rng::new(11, 0), Checked::of(&table));
         let latest = Scene { store: Vec::new(), text: Vec::new() };
-        let mut draw = Draw { rng, table, checked, need: 30, latest, faults: 0 };
+        let mut draw = Draw { rng, table, checked, need: 30, latest, faults: 0, wrong: 0 };
         let mut reached = BTreeSet::new();
         for _ in 0..2000 {
             let mut words = [5; 30];

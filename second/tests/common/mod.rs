@@ -5,7 +5,7 @@ use second::lines::{
     calls_of_lines, frame_of_line, lines_of, part, step_program, table_of_lines, Call,
     OUTPUT_BYTES, STORE_WORDS,
 };
-use second::{advance, arrival, check, load, run, Answer};
+use second::{advance, arrival, check, load, run, Answer, Model};
 
 /// The worked session of the document and what it must print.
 pub const WORKED: &str = include_str!("../data/worked.session");
@@ -109,6 +109,40 @@ pub fn chart(lines: &[String]) -> Vec<u8> {
 /// Where the words of the chart's variables begin.
 pub const CHART_VARIABLES: usize = 16 + 6 + 3;
 
+/// So many delays, elements 0 and on, a source and a sink. For each delay, by its
+/// number, the source has an event that starts it and one that stops it (see
+/// [`start_event`]), the one with a value that feeds DT, and the sink has an
+/// event input that records its output.
+pub fn delays(number: usize) -> Vec<u8> {
+    let (source, sink) = (number, number + 1);
+    let mut lines: Vec<String> = Vec::new();
+    let each = |line: &dyn Fn(usize) -> String| (0..number).map(line).collect::<Vec<String>>();
+    lines.extend(each(&|k| format!("0102{k:04X}")));
+    lines.extend([format!("0103{source:04X}"), format!("0104{sink:04X}")]);
+    lines.extend(each(&|k| format!("0200{k:04X}")));
+    lines.extend(each(&|k| format!("0201{k:04X}")));
+    lines.extend(each(&|k| format!("02{k:02X}{sink:04X}")));
+    lines.extend(each(&|k| format!("0300{k:04X}")));
+    lines.extend(vec![format!("0300{source:04X}"); 2 * number]);
+    lines.extend(each(&|k| format!("0400{k:04X}")));
+    lines.extend(vec![format!("0401{source:04X}"); number]);
+    lines.extend(each(&|k| format!("0500{k:04X}{k:04X}")));
+    lines.extend(each(&|k| format!("0501{:04X}{:04X}", number + k, number + k)));
+    lines.extend(each(&|k| format!("0A00{k:04X}{:04X}", 2 * number + k)));
+    lines.extend(each(&|k| format!("0A00{:04X}{k:04X}", number + k)));
+    lines.extend(each(&|k| format!("0A00{:04X}{:04X}", 2 * number + k, number + k)));
+    lines.extend(each(&|k| format!("0B00{:04X}{k:04X}", number + k)));
+    table(&lines.iter().map(String::as_str).collect::<Vec<&str>>())
+}
+
+/// The events that start and stop a delay of so many.
+pub fn start_event(number: usize, delay: usize) -> u32 {
+    (number + delay) as u32
+}
+pub fn stop_event(number: usize, delay: usize) -> u32 {
+    (2 * number + delay) as u32
+}
+
 /// The lines of FULL with some of them replaced.
 pub fn full_with(changes: &[(usize, &'static str)]) -> Vec<&'static str> {
     let mut lines = FULL.to_vec();
@@ -147,6 +181,24 @@ pub fn run_all(table: &[u8], store: &mut [u32]) -> (Answer, Vec<u8>) {
     let answer = run(table, store, 10_000, &mut out);
     out.truncate(answer.bytes);
     (answer, out)
+}
+
+/// Words 9 and 10 as they are found by looking at the due flag and due time of
+/// each element.
+pub fn next_due(model: &Model, store: &[u32]) -> [u32; 2] {
+    let mut words = [0, 0];
+    for element in 0..model.elements.len() {
+        let (flag, time) = (store[16 + 3 * element + 1], store[16 + 3 * element + 2]);
+        if flag == 1 && (words[0] == 0 || time < words[1]) {
+            words = [1, time];
+        }
+    }
+    words
+}
+
+/// How many due flags are set.
+pub fn due_flags(model: &Model, store: &[u32]) -> usize {
+    (0..model.elements.len()).filter(|element| store[16 + 3 * element + 1] == 1).count()
 }
 
 /// An answer that only refuses.

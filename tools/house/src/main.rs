@@ -18,6 +18,7 @@ const CONTRACTS: &[&str] =
 const THEOREMS: &[(Place, &str)] = &[
     (Place::fixed("laws_calls", "laws.Demand3"), ""),
     (Place::fixed("laws_calls", "laws.Timers"), "delay-due"),
+    (Place::fixed("laws_calls", "laws.NextDue"), "next-due"),
     (Place::fixed("session_dialogue", "laws.Whole"), "runs-print"),
 ];
 

@@ -3,7 +3,7 @@ use Rattle.calls.proofs.Tracing.{ready-lawful, ready-owners}
 use borrow.Author.Needs.{needs}
 use Rattle.calls.proofs.advance.Statement.{statement}
 use Rattle.rules_calls.specs.laws.Checked.{ready}
-use Rattle.calls.proofs.Turns.{advance-faulty, advance-unready, advance-refused, advance-done}
+use Rattle.calls.proofs.Turns.{ready-kept, advance-faulty, advance-unready, advance-refused, advance-done}
 use Rattle.calls.proofs.advance.Tie as tie
 
 check-requires : tie.Need-check-requires
@@ -31,7 +31,7 @@ returns-2 : tie.Need-returns-2
 returns-2 c = advance-unready _ _ _ (c .before .before .before .before .before .before .check .ensures .0) (c .before .before .before .before .judged .given .1) (c .before .store-refusal .ensures) (c .if1 .taken)
 
 time-refusal-requires : tie.Need-time-refusal-requires
-time-refusal-requires c κs = ready _ (c .before .before .before .before .before .before .before .check .ensures .0) (c .before .before .before .before .before .judged .given .1)
+time-refusal-requires c κs = ready-kept _ _ _ (c .before .before .store-refusal .ensures) (c .before .if1 .left)
 
 same-length-2 : tie.Need-same-length-2
 same-length-2 c = search needs
@@ -40,7 +40,10 @@ returns-3 : tie.Need-returns-3
 returns-3 c = advance-refused _ _ _ (c .before .before .before .before .before .before .before .before .before .check .ensures .0) (c .before .before .before .before .before .before .before .judged .given .1) (c .before .before .before .before .store-refusal .ensures) (c .before .before .before .if1 .left) (c .before .time-refusal .ensures) (c .if2 .taken)
 
 advance-to-requires : tie.Need-advance-to-requires
-advance-to-requires c κs = (ready _ (c .before .before .before .before .before .before .before .before .before .before .check .ensures .0) (c .before .before .before .before .before .before .before .before .judged .given .1), ready-lawful _ (c .before .before .before .before .before .before .before .before .before .before .check .ensures .0) (c .before .before .before .before .before .before .before .before .judged .given .1), ready-owners _ (c .before .before .before .before .before .before .before .before .before .before .check .ensures .0) (c .before .before .before .before .before .before .before .before .judged .given .1))
+advance-to-requires c κs =
+    let e = c .before .before .before .before .before .before .before .before .before .before .check .ensures .0 in
+    let w = c .before .before .before .before .before .before .before .before .judged .given .1 in
+    (ready _ e w, ready-lawful _ e w, ready-owners _ e w, ready-kept _ _ _ (c .before .before .before .before .before .store-refusal .ensures) (c .before .before .before .before .if1 .left))
 
 same-length-3 : tie.Need-same-length-3
 same-length-3 c = search needs

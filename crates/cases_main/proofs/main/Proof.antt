@@ -6,10 +6,10 @@ use Rattle.cases_main.proofs.main.Statement.{statement}
 use Rattle.cases_main.proofs.main.Tie as tie
 
 abbrev Inv-loop : tie.InvT-loop
-Inv-loop points₀ i₀ t7 points i = (points ≤ i) × (i ≤ 30)
+Inv-loop points₀ i₀ t7 points i = (points ≤ i) × (i ≤ 38)
 
 abbrev μ-loop : tie.MeasureT-loop
-μ-loop points₀ i₀ t7 points i = 30 - i
+μ-loop points₀ i₀ t7 points i = 38 - i
 
 loop-holds : tie.Need-loop-holds Inv-loop μ-loop
 loop-holds c = search needs

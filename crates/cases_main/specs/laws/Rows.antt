@@ -27,15 +27,15 @@ pub calls-right : map (λ (r : Row). take (r .5 - r .4) (drop (r .4) calls)) row
 calls-right = refl
 
 fits : ℕ → Bool
-fits i = let r = getD rows i noRow in both (leb (r .2) 40) (both (leb (r .3) 4096) (leb (r .5) 19))
+fits i = let r = getD rows i noRow in both (leb (r .2) 41) (both (leb (r .3) 4096) (leb (r .5) 35))
 
-all-fit : allTo fits 30 ≡ true
+all-fit : allTo fits 38 ≡ true
 unfolding fits allTo
 all-fit = refl
 
-pub row-fits : (i : ℕ) → i < 30 → Fits (getD rows i noRow)
+pub row-fits : (i : ℕ) → i < 38 → Fits (getD rows i noRow)
 unfolding fits
 row-fits i h =
     let r = getD rows i noRow in
-    let w = both3 (leb (r .2) 40) (leb (r .3) 4096) (leb (r .5) 19) (all-at fits 30 i h all-fit) in
+    let w = both3 (leb (r .2) 41) (leb (r .3) 4096) (leb (r .5) 35) (all-at fits 38 i h all-fit) in
     record { words = leb-true _ _ (w .0); room = leb-true _ _ (w .1); last = leb-true _ _ (w .2) }

@@ -12,17 +12,19 @@ use Rattle.rules_tables.specs.declared.Shape.{Shape}
 use Rattle.rules_store.specs.declared.Running.{Running}
 use Rattle.rules_tables.specs.Ids.{elements, inputs, inputFrame, transitions, transitionFrame, stateFrame}
 use Rattle.rules_store.specs.Running.{rest, awake, entered, charting}
-use Rattle.rules_store.specs.Word.{largestDue, largestTime, nowOf, putNow, runningElement, currentEvent, putOwner, runningOf, putRunning, chartState, putChartState, dueFlag, dueTime, putDue}
+use Rattle.rules_store.specs.Word.{largestDue, largestTime, nowOf, putNow, runningElement, currentEvent, putOwner, runningOf, putRunning, chartState, putChartState, dueFlag, dueTime}
+use Rattle.rules_store.specs.Due.{putDue}
 use Rattle.rules_store.specs.Part.{time, block, chart, due, just, calm, SameBlock, Leaves}
 use Rattle.rules_store.specs.laws.Writer.{leaves-now, leaves-owner, leaves-running, leaves-chart, leaves-due}
 use Rattle.rules_store.specs.Own.{Due}
-use Rattle.rules_store.specs.laws.Own.{now-put, element-put, event-put, running-put, element-running, event-running, chart-put, chart-other, due-put, due-other}
+use Rattle.rules_store.specs.laws.Own.{now-put, element-put, event-put, running-put, element-running, event-running, chart-put, chart-other}
+use Rattle.rules_store.specs.laws.PutDue.{due-put, due-other, put-keeps}
 use Rattle.rules_moves.specs.Take.{wake}
 use Rattle.rules_tables.specs.Actions.{actionNumber}
 use Rattle.rules_moves.specs.Chart.{change, goIdle, elementOf, stateOf}
 use Rattle.rules_tables.specs.Lawful.{StateOf, Lawful}
 use Rattle.rules_store.specs.Formed.{DueFact, ChartFact, Parts, Mode, Owner, Busy, Block, Formed}
-use Rattle.laws_kept.specs.laws.Keeping.{due-same, same-charts, same-dues, same-event, same-buffers, kept-parts, calm-parts, busy-block, rest-block, same-rest, same-blocked, entered-mode}
+use Rattle.laws_kept.specs.laws.Keeping.{due-same, same-charts, same-dues, same-next, same-event, same-buffers, kept-parts, calm-parts, busy-block, rest-block, same-rest, same-blocked, entered-mode}
 
 module _ (T : List ℕ) (S : Shape) where
   -- nothing that has facts is touched
@@ -105,7 +107,7 @@ module _ (T : List ℕ) (S : Shape) where
       let he = u .element in
       let now′ = w .now refl in
       rerun-formed (entered (actionNumber T S to 1) (runningOf s)) y
-      (kept-parts T S (just chart) s y w p refl charts (same-dues T S (just chart) s y w p refl refl) (same-event T S (just chart) s y w p refl refl) (same-buffers T S (just chart) s y w p refl))
+      (kept-parts T S (just chart) s y w p refl charts (same-dues T S (just chart) s y w p refl refl) (same-next T S (just chart) s y w p refl) (same-event T S (just chart) s y w p refl refl) (same-buffers T S (just chart) s y w p refl))
       (rw (he, u .event) (b .owner)) (rw now′ (b .born)) (rw (he, chart-put S s (p .long) el to within) (entered-mode T S to 1 (runningOf s)))
     where
       within : elementOf s < elements S
@@ -133,24 +135,24 @@ module _ (T : List ℕ) (S : Shape) where
 
   -- ---- due times
   module _ (el flag t : ℕ) (s : List ℕ) (l : el < elements S) (g : Formed T S s) where
-    pub due-formed : (nowOf (putDue el flag t s) ≡ nowOf s → Due el flag t (putDue el flag t s) → DueFact T (putDue el flag t s) el) → Formed T S (putDue el flag t s)
+    pub due-formed : (nowOf (putDue S el flag t s) ≡ nowOf s → Due el flag t (putDue S el flag t s) → DueFact T (putDue S el flag t s) el) → Formed T S (putDue S el flag t s)
     due-formed h =
-        let s′ = putDue el flag t s in
+        let s′ = putDue S el flag t s in
         let w = leaves-due T S (just due) s el flag t l refl in
         let p = g .parts in
         record {
           parts =
               kept-parts T S (just due) s s′ w p refl (same-charts T S (just due) s s′ w p refl) (λ c b. dues c b (w .now refl))
-              (same-event T S (just due) s s′ w p refl refl) (same-buffers T S (just due) s s′ w p refl);
+              (put-keeps S s (p .long) el flag t l .next) (same-event T S (just due) s s′ w p refl refl) (same-buffers T S (just due) s s′ w p refl);
           block = same-blocked T S (just due) s s′ w refl refl refl (g .block);
         }
       where
-        dues : (c : ℕ) → c < elements S → nowOf (putDue el flag t s) ≡ nowOf s → DueFact T (putDue el flag t s) c
+        dues : (c : ℕ) → c < elements S → nowOf (putDue S el flag t s) ≡ nowOf s → DueFact T (putDue S el flag t s) c
         dues c b n =
             ⊎-elim (λ e. rw (eqb-true c el e) (h n (due-put S s (g .parts .long) el flag t l)))
-            (λ e. due-same T s (putDue el flag t s) c (due-other S s el c flag t (eqb-false c el e)) n (g .parts .dues c b)) (test-cases (eqb c el))
+            (λ e. due-same T s (putDue S el flag t s) c (due-other S s el c flag t (eqb-false c el e)) n (g .parts .dues c b)) (test-cases (eqb c el))
 
-  pub due-set : (el t : ℕ) (s : List ℕ) → el < elements S → flagAt T el ≡ 2 → nowOf s ≤ t → t ≤ largestDue → Formed T S s → Formed T S (putDue el 1 t s)
+  pub due-set : (el t : ℕ) (s : List ℕ) → el < elements S → flagAt T el ≡ 2 → nowOf s ≤ t → t ≤ largestDue → Formed T S s → Formed T S (putDue S el 1 t s)
   due-set el t s l fl a b g =
       due-formed el 1 t s l g
       (λ n d.
@@ -160,7 +162,7 @@ module _ (T : List ℕ) (S : Shape) where
         due = λ _. rw (d .timed, n) (fl, a, b);
       })
 
-  pub due-cleared : (el : ℕ) (s : List ℕ) → el < elements S → Formed T S s → Formed T S (putDue el 0 0 s)
+  pub due-cleared : (el : ℕ) (s : List ℕ) → el < elements S → Formed T S s → Formed T S (putDue S el 0 0 s)
   due-cleared el s l g =
       due-formed el 0 0 s l g
       (λ n d. record { flagged = rw (d .flagged) (omega arith); rests = λ _. d .timed; due = λ z. absurd (let y = sym (d .flagged) ∙ z in omega arith) })
@@ -178,6 +180,7 @@ module _ (T : List ℕ) (S : Shape) where
               long = let x = p .long in let q = w .long in omega arith;
               in-time = rw n b;
               spare = λ j l. w .spare j l ∙ p .spare j l;
+              next = same-next T S (just time) s s′ w p refl;
               charts = same-charts T S (just time) s s′ w p refl;
               dues =
                   λ el l.

@@ -14,8 +14,10 @@ use Rattle.rules_tables.specs.declared.Shape.{Shape}
 use Rattle.rules_store.specs.declared.Running.{Running}
 use Rattle.rules_tables.specs.Ids.{elements, inputs, variables, variableFrame, actionFrame}
 use Rattle.rules_store.specs.Running.{rest, entered, charting}
-use Rattle.rules_store.specs.Word.{nowOf, runningElement, currentEvent, runningOf, chartState, buffer}
+use Rattle.rules_store.specs.Word.{nowOf, runningElement, currentEvent, runningOf, nextDue, chartState, buffer}
 use Rattle.rules_store.specs.Part.{Part, time, block, count, chart, due, input, sampled as «samples-part», buffered, just, also, SameBlock, SameDue, SameInput, Leaves}
+use Rattle.rules_store.specs.Due.{earliest}
+use Rattle.rules_store.specs.laws.PutDue.{leaves-keeps}
 use Rattle.rules_moves.specs.Fire.{fire}
 use Rattle.rules_moves.specs.laws.Untouched.{fire-untouched}
 use Rattle.rules_moves.specs.Take.{sampled}
@@ -49,6 +51,9 @@ module _ (T : List ℕ) (S : Shape) (f : Part → Bool) (s s′ : List ℕ) (w :
   pub same-dues : f time ≡ false → f due ≡ false → (el : ℕ) → el < elements S → DueFact T s′ el
   same-dues t h el l = due-same T s s′ el (w .dues h el l) (w .now t) (p .dues el l)
 
+  pub same-next : f due ≡ false → nextDue s′ ≡ earliest s′ (elements S)
+  same-next h = leaves-keeps T S f s s′ w h (record { long = p .long; next = p .next }) .next
+
   pub same-event : f time ≡ false → f input ≡ false → (i : ℕ) → i < inputs S → InputFact S s′ i
   same-event t h i l = input-same S s s′ i (w .waits h i l) (w .now t) (p .events i l)
 
@@ -57,21 +62,22 @@ module _ (T : List ℕ) (S : Shape) (f : Part → Bool) (s s′ : List ℕ) (w :
 
   -- the rest, whatever is touched but now
   pub kept-parts : f time ≡ false → ((el : ℕ) → el < elements S → ChartFact T S s′ el) → ((el : ℕ) → el < elements S → DueFact T s′ el)
-      → ((i : ℕ) → i < inputs S → InputFact S s′ i) → ((v : ℕ) → v < variables S → (flagAt T (variableFrame S v) ≡ 0 → ⊥) → buffer S s′ v ≡ 0) → Parts T S s′
-  kept-parts t c d e b =
+      → nextDue s′ ≡ earliest s′ (elements S) → ((i : ℕ) → i < inputs S → InputFact S s′ i) → ((v : ℕ) → v < variables S → (flagAt T (variableFrame S v) ≡ 0 → ⊥) → buffer S s′ v ≡ 0) → Parts T S s′
+  kept-parts t c d x e b =
       record {
         long = let a = p .long in let q = w .long in omega arith;
         in-time = rw (w .now t) (p .in-time);
         spare = λ j l. w .spare j l ∙ p .spare j l;
         charts = c;
         dues = d;
+        next = x;
         events = e;
         buffers = b;
       }
 
   -- where none is touched that has facts of its own
   pub calm-parts : f time ≡ false → f chart ≡ false → f due ≡ false → f input ≡ false → f buffered ≡ false → Parts T S s′
-  calm-parts t c d e b = kept-parts t (same-charts c) (same-dues t d) (same-event t e) (same-buffers b)
+  calm-parts t c d e b = kept-parts t (same-charts c) (same-dues t d) (same-next d) (same-event t e) (same-buffers b)
 
 -- ---- the running block
 module _ (T : List ℕ) (S : Shape) (s : List ℕ) where
@@ -167,7 +173,7 @@ module _ (T : List ℕ) (S : Shape) (k : Lawful T S) where
       record {
         parts =
             kept-parts T S f s s′ w p refl (same-charts T S f s s′ w p refl) (same-dues T S f s s′ w p refl refl)
-            (λ i h. event i h (fire-marked T S k o birth t i s (p .long) h) (w .now refl))
+            (same-next T S f s s′ w p refl) (λ i h. event i h (fire-marked T S k o birth t i s (p .long) h) (w .now refl))
             (λ v h n.
             fire-untouched T S o birth t v s (k .is-good) (λ j b e _. n (ap (λ (x : ℕ). flagAt T (variableFrame S x)) (sym e) ∙ k .destination-input j b)) ∙ p .buffers v h n);
         block = same-blocked T S f s s′ w refl refl refl (g .block);
@@ -195,7 +201,7 @@ module _ (T : List ℕ) (S : Shape) (k : Lawful T S) where
       record {
         parts =
             kept-parts T S f s s′ w p refl (same-charts T S f s s′ w p refl) (same-dues T S f s s′ w p refl refl)
-            (λ c h. event c h (w .now refl)) (same-buffers T S f s s′ w p refl);
+            (same-next T S f s s′ w p refl) (λ c h. event c h (w .now refl)) (same-buffers T S f s s′ w p refl);
         block = same-blocked T S f s s′ w refl refl refl (g .block);
       }
     where

@@ -20,12 +20,15 @@ use Rattle.rules_tables.specs.declared.Shape.{Shape}
 use Rattle.rules_tables.specs.Ids.{elements, inputs, variables, variableFrame}
 use Rattle.rules_store.specs.Layout.{need}
 use Rattle.rules_store.specs.Running.{rest}
-use Rattle.rules_store.specs.Word.{runningOf, untrue, chartState, putChartState, waiting, value, putValue, buffer, putBuffer}
+use Rattle.rules_store.specs.Word.{runningOf, nextDue, untrue, chartState, putChartState, waiting, value, putValue, buffer, putBuffer}
 use Rattle.rules_store.specs.laws.Word.{buffer-putBuffer, buffer-putValue, value-putBuffer, value-putValue}
 use Rattle.rules_store.specs.Part.{Part, chart, sampled, computed, buffered, just, also, everything, Leaves}
 use Rattle.rules_store.specs.laws.Part.{leaves-all, leaves-then}
 use Rattle.rules_store.specs.laws.Writer.{leaves-chart, leaves-value, leaves-buffer}
 use Rattle.rules_store.specs.Own.{Due}
+use Rattle.rules_store.specs.Due.{earliest, putDue}
+use Rattle.rules_store.specs.laws.Due.{earliest-none}
+use Rattle.rules_store.specs.laws.PutDue.{put-same}
 use Rattle.rules_store.specs.laws.Own.{chart-put, chart-other, value-put, buffer-put}
 use Rattle.rules_store.specs.Blank.{Blank}
 use Rattle.rules_store.specs.laws.Blank.{zeroes-at, blank}
@@ -183,6 +186,16 @@ module _ (T : List ℕ) (S : Shape) where
         let c = clear .dues el l in
         record { flagged = a .flag ∙ b .flag ∙ c .0; timed = a .at ∙ b .at ∙ c .1 }
 
+    -- nothing is due
+    pub loaded-next : nextDue (loaded T S s) ≡ earliest (loaded T S s) (elements S)
+    loaded-next =
+        load-leaves .next-same refl ∙ set-leaves .next-same refl ∙ clear .next
+        ∙ sym (earliest-none (loaded T S s) (elements S) (λ el l. loaded-due el l .flagged))
+
+    -- and the writer of due words would leave it so: each element has what it is given where it is not due
+    pub loaded-put : (el : ℕ) → el < elements S → putDue S el 0 0 (loaded T S s) ≡ loaded T S s
+    loaded-put el l = put-same S (loaded T S s) (record { long = load-started .long; next = loaded-next }) el 0 0 (loaded-due el l)
+
     pub loaded-formed : Lawful T S → Formed T S (loaded T S s)
     loaded-formed k =
         let w = load-leaves in
@@ -196,6 +209,7 @@ module _ (T : List ℕ) (S : Shape) where
                 long = load-started .long;
                 in-time = rw (w .now refl ∙ u .now refl ∙ z .now) (omega arith);
                 spare = λ j l. w .spare j l ∙ u .spare j l ∙ z .spare j l;
+                next = loaded-next;
                 charts =
                     λ el l.
                     record {

@@ -15,13 +15,14 @@ use Rattle.rules_walks.specs.Walk.{upTo}
 use Rattle.rules_tables.specs.declared.Shape.{Shape}
 use Rattle.rules_store.specs.declared.Running.{Running}
 use Rattle.rules_tables.specs.Ids.{elements, firstOutput, outputs, associations}
-use Rattle.rules_store.specs.Word.{largestTime, nowOf, putNow, dueFlag, dueTime, putDue}
+use Rattle.rules_store.specs.Word.{largestTime, nowOf, putNow, dueFlag, dueTime}
+use Rattle.rules_store.specs.Due.{putDue, dueAt}
 use Rattle.rules_store.specs.Part.{due, just}
 use Rattle.rules_store.specs.laws.Writer.{leaves-due}
 use Rattle.rules_store.specs.laws.Own.{now-put}
 use Rattle.rules_tables.specs.Owned.{any, nth}
 use Rattle.rules_moves.specs.Take.{fireFound}
-use Rattle.rules_calls.specs.Calls.{dueAt, expired, expire, advanced, wrongTime, dueBefore, beyondDue, give, arrived}
+use Rattle.rules_calls.specs.Calls.{expired, expire, advanced, wrongTime, dueBefore, beyondDue, give, arrived}
 use Rattle.rules_tables.specs.Lawful.{Lawful}
 use Rattle.rules_calls.specs.laws.Calls.{gives-leaves}
 use Rattle.laws_kept.specs.laws.Blocks.{due-cleared, now-formed}
@@ -60,7 +61,7 @@ module _ (T : List ℕ) (S : Shape) (B : Begun) (k : Lawful T S) where
         let x = fireFound T S q t t s in
         let h = fire-found-goes T S B k s₀ l s g q (begins t) t t (goes-now T S B k s₀ l s g ∙ n₀) (omega arith) refl in
         let r = leaves-due T S (just due) x el 0 0 le refl .running refl .running in
-        quiet-goes T S B k s₀ l′ x h (putDue el 0 0 x) (leaves-due T S quiet x el 0 0 le refl) (due-cleared T S el x le (h .holds .formed))
+        quiet-goes T S B k s₀ l′ x h (putDue S el 0 0 x) (leaves-due T S quiet x el 0 0 le refl) (due-cleared T S el x le (h .holds .formed))
         (λ m. ap (λ (y : Running). born (y .birth)) r ∙ h .holds .births .running-born (λ z. m (ap (λ (y : Running). y .mode) r ∙ z)))
 
     expire-goes : (l : Log) (s : List ℕ) (el : ℕ) → el < elements S → Goes T S B s₀ l s → Goes T S B s₀ (expireLog T S t el s l) (expire T S t el s)

@@ -19,7 +19,8 @@ use Rattle.rules_tables.specs.declared.Shape.{Shape}
 use Rattle.rules_store.specs.declared.Running.{Running}
 use Rattle.rules_tables.specs.Ids.{elements, firstVariable, inputs, variables}
 use Rattle.rules_store.specs.Running.{awake}
-use Rattle.rules_store.specs.Word.{nowOf, putOwner, runningOf, dueFlag, putDue, waiting, birthOf, value}
+use Rattle.rules_store.specs.Word.{nowOf, putOwner, runningOf, dueFlag, waiting, birthOf, value}
+use Rattle.rules_store.specs.Due.{putDue}
 use Rattle.rules_store.specs.Part.{due, input, sampled as «samples-part», just, also, everything, Leaves}
 use Rattle.rules_store.specs.laws.Writer.{leaves-owner}
 use Rattle.rules_store.specs.laws.Own.{running-put}
@@ -128,9 +129,9 @@ module _ (T : List ℕ) (S : Shape) (B : Begun) (k : Lawful T S) (s₀ : List �
       formed : Formed T S (startStop T S el i t y)
       formed =
           let g′ = go .holds .formed in
-          by-choose (Formed T S) (isStart T S el i) (started T S el t y) (putDue el 0 0 y)
+          by-choose (Formed T S) (isStart T S el i) (started T S el t y) (putDue S el 0 0 y)
           (λ _.
-          by-choose (Formed T S) (eqb (dueFlag y el) 0) (putDue el 1 (t + dtOf T S el y) y) y
+          by-choose (Formed T S) (eqb (dueFlag y el) 0) (putDue S el 1 (t + dtOf T S el y) y) y
           (λ _.
           due-set T S el (t + dtOf T S el y) y within e (rw now-y (omega arith))
           (let a = dt-small T S el y in let b = g′ .parts .in-time in let c = now-y in omega arith) g′)

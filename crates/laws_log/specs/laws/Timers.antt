@@ -24,10 +24,11 @@ use Rattle.rules_store.specs.declared.Running.{Running}
 use Rattle.rules_store.specs.Formed.{Formed}
 use Rattle.rules_store.specs.Layout.{need}
 use Rattle.rules_store.specs.Running.{stepped, charting}
-use Rattle.rules_store.specs.Word.{nowOf, runningOf, putRunning, putNow, dueFlag, putDue, birthOf}
+use Rattle.rules_store.specs.Word.{nowOf, runningOf, putRunning, putNow, dueFlag, birthOf}
+use Rattle.rules_store.specs.Due.{putDue, dueAt}
 use Rattle.rules_store.specs.Part.{Part, due, allBut, everything, SameDue}
 use Rattle.rules_store.specs.Own.{Due}
-use Rattle.rules_store.specs.laws.Own.{due-put, due-other}
+use Rattle.rules_store.specs.laws.PutDue.{due-put, due-other}
 use Rattle.rules_store.specs.laws.Writer.{leaves-now, leaves-running, leaves-due}
 use Rattle.rules_moves.specs.declared.Next.{Next}
 use Rattle.rules_moves.specs.declared.Next.the-variants.{Take, Change, Idle, Step, End, Back, Nothing}
@@ -44,7 +45,7 @@ use Rattle.rules_moves.specs.laws.Moving.{change-leaves, idle-leaves, one-step-
 use Rattle.rules_moves.specs.laws.Next.{next-means, step-below}
 use Rattle.rules_moves.specs.laws.Partner.{same-element}
 use Rattle.rules_moves.specs.laws.Taking.{fires-nothing, sampled-leaves, passes-leaves, wake-leaves, fire-found-leaves}
-use Rattle.rules_calls.specs.Calls.{dueAt, expired, expire, advanced, give, arrived, ofSource}
+use Rattle.rules_calls.specs.Calls.{expired, expire, advanced, give, arrived, ofSource}
 use Rattle.rules_calls.specs.Run.{after}
 use Rattle.rules_calls.specs.laws.Calls.{gives-leaves}
 use Rattle.rules_log.specs.Log.{How, begins, goesOn, takes, fires, Log, more, fireLog, moveLog, runLog, expireLog, advanceLog, arrivalLog}
@@ -103,8 +104,8 @@ module _ (T : List ℕ) (S : Shape) (k : Lawful T S) (el : ℕ) (le : el < eleme
       before : here y
       before = sampled-leaves T S k others refl refl i s li .dues refl el le
 
-      apart : (flag at : ℕ) → here (putDue el′ flag at y)
-      apart flag at = same-then s y (putDue el′ flag at y) before (due-other S y el′ el flag at (λ e. n (sym e)))
+      apart : (flag at : ℕ) → here (putDue S el′ flag at y)
+      apart flag at = same-then s y (putDue S el′ flag at y) before (due-other S y el′ el flag at (λ e. n (sym e)))
 
   taken-same : (i t : ℕ) (s : List ℕ) → i < inputs S → (inputOwner T S i ≡ el → ⊥) → SameDue s (taken T S i t s) el
   unfolding taken
@@ -143,12 +144,12 @@ module _ (T : List ℕ) (S : Shape) (k : Lawful T S) (el : ℕ) (le : el < eleme
       long : need S ≤ length y
       long = let a = f .parts .long in let b = sampled-leaves T S k others refl refl i s li .long in omega arith
 
-      put : (flag at : ℕ) (s′ : List ℕ) → s′ ≡ putDue (inputOwner T S i) flag at y → Due el flag at s′
+      put : (flag at : ℕ) (s′ : List ℕ) → s′ ≡ putDue S (inputOwner T S i) flag at y → Due el flag at s′
       put flag at s′ q = rw (q, e) (due-put S y long el flag at le)
 
       by : (b : Bool) → isStart T S el i ≡ b → (x : Timer) → Clocked el x s → Clocked el (choose b (startTimer (t + dtOf T S el y) x) rests) (taken T S i t s)
       by true b rests c =
-          put 1 (t + dtOf T S el y) _ (first-start T S k i t s li d (at-el true b) (ap (dueFlag s) e ∙ c .flagged) ∙ ap (λ (x : ℕ). putDue (inputOwner T S i) 1 (t + dtOf T S x y) y) e)
+          put 1 (t + dtOf T S el y) _ (first-start T S k i t s li d (at-el true b) (ap (dueFlag s) e ∙ c .flagged) ∙ ap (λ (x : ℕ). putDue S (inputOwner T S i) 1 (t + dtOf T S x y) y) e)
       by true b (until u) c =
           rw (second-start T S k i t s li d (at-el true b) (λ z. let q = sym (ap (dueFlag s) e ∙ c .flagged) ∙ z in omega arith))
           (clocked-same (until u) s y (sampled-leaves T S k others refl refl i s li .dues refl el le) c)
@@ -227,7 +228,7 @@ module _ (T : List ℕ) (S : Shape) (k : Lawful T S) (el : ℕ) (le : el < eleme
   fire-log-rests (one o) t s l q = rw (eq-eqb (outputOwner T S o) el (output-own el o q)) refl
   fire-log-rests missing t s l q = absurd (k .delay-output el le is-delay q)
 
-  cleared : (e : ℕ) (x : List ℕ) → e ≡ el → need S ≤ length x → Due el 0 0 (putDue e 0 0 x)
+  cleared : (e : ℕ) (x : List ℕ) → e ≡ el → need S ≤ length x → Due el 0 0 (putDue S e 0 0 x)
   cleared e x own long = rw own (due-put S x long el 0 0 le)
 
   record Walked (l : Log) (s : List ℕ) : Type 0 where
@@ -248,17 +249,17 @@ module _ (T : List ℕ) (S : Shape) (k : Lawful T S) (el : ℕ) (le : el < eleme
         long : need S ≤ length x
         long = let a = fire-found-leaves T S k others refl refl refl q t t s .long in let c = w .long in omega arith
 
-        stays : need S ≤ length (putDue e 0 0 x)
+        stays : need S ≤ length (putDue S e 0 0 x)
         stays = let a = leaves-due T S everything x e 0 0 b refl .long in omega (arith, long)
 
-        by : (c : Bool) → eqb e el ≡ c → Clocked el (timer T S el (fireLog q (begins t) s l)) (putDue e 0 0 x)
+        by : (c : Bool) → eqb e el ≡ c → Clocked el (timer T S el (fireLog q (begins t) s l)) (putDue S e 0 0 x)
         by true h =
             let own = eqb-true e el h in
             rw (fire-log-rests q t s l (ap (λ (y : ℕ). nth T (firstOutput S) (outputs S) any y 0) (sym own))) (cleared e x own long)
         by false h =
             let apart = eqb-false e el h in
             rw (fire-log-same q (begins t) s l (λ o z y. apart (sym (output-own e o z) ∙ y)))
-            (clocked-same (timer T S el l) s (putDue e 0 0 x) (same-then s x (putDue e 0 0 x) (fire-found-same s q t t) (due-other S x e el 0 0 (λ y. apart (sym y)))) (w .clocked))
+            (clocked-same (timer T S el l) s (putDue S e 0 0 x) (same-then s x (putDue S e 0 0 x) (fire-found-same s q t t) (due-other S x e el 0 0 (λ y. apart (sym y)))) (w .clocked))
 
     expire-walked : (e : ℕ) (l : Log) (s : List ℕ) → e < elements S → Walked l s → Walked (expireLog T S t e s l) (expire T S t e s)
     unfolding expireLog expire choose

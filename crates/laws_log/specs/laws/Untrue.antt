@@ -30,7 +30,8 @@ use Rattle.rules_moves.specs.laws.Firing.{fire-leaves}
 use Rattle.rules_moves.specs.laws.Moving.{change-leaves, idle-leaves, one-step-counts, end-leaves, untrue-few}
 use Rattle.rules_moves.specs.laws.Next.{next-means, step-below}
 use Rattle.rules_moves.specs.laws.Taking.{settled-leaves, fire-found-leaves}
-use Rattle.rules_calls.specs.Calls.{dueAt, expired, expire, advanced, give, arrived}
+use Rattle.rules_calls.specs.Calls.{expired, expire, advanced, give, arrived}
+use Rattle.rules_store.specs.Due.{dueAt}
 use Rattle.rules_calls.specs.Run.{after, untrueIn}
 use Rattle.rules_calls.specs.laws.Calls.{gives-leaves}
 use Rattle.laws_log.specs.laws.Moves.{runs-within, formed-after}

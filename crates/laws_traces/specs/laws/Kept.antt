@@ -13,22 +13,27 @@ use Rattle.rules_walks.specs.Walk.{upTo}
 use Rattle.rules_tables.specs.Frame.{Table}
 use Rattle.rules_tables.specs.declared.Shape.{Shape}
 use Rattle.rules_tables.specs.Judge.{Verdict, accepted, refused, judge, shapeOf}
-use Rattle.rules_store.specs.Word.{Store, countEnd, nowOf, untrue}
+use Rattle.rules_tables.specs.Ids.{elements}
+use Rattle.rules_tables.specs.laws.Accepted.{accepted-means}
+use Rattle.rules_tables.specs.laws.Lawful.{lawful}
+use Rattle.rules_store.specs.Word.{Store, countEnd, nowOf, nextDue, untrue}
+use Rattle.rules_store.specs.Due.{earliest}
 use Rattle.rules_store.specs.Part.{Leaves}
 use Rattle.rules_store.specs.laws.Part.{leaves-all}
 use Rattle.rules_calls.specs.Run.{after, bytes}
-use Rattle.rules_calls.specs.declared.Answer.the-variants.{Refused, Done}
+use Rattle.rules_calls.specs.declared.Answer.the-variants.{Refused, Done, Ran}
 use Rattle.rules_calls.specs.Answer.{movesOf, untrueOf, answerBy}
-use Rattle.rules_calls.specs.Refusals.{loadRefusal}
+use Rattle.rules_calls.specs.Refusals.{loadRefusal, storeRefusal}
 use Rattle.rules_calls.specs.Public.{countBy}
 use Rattle.rules_traces.specs.declared.Traced.{Traced}
 use Rattle.rules_traces.specs.declared.Shown.{Shown}
 use Rattle.rules_traces.specs.Run.{trace}
 use Rattle.rules_traces.specs.Reader.{shownOf, shownAfter}
 use Rattle.rules_traces.specs.Public.{tracedMoves, TracedCall, ShowCall}
+use Rattle.laws_log.specs.laws.Moves.{formed-after}
 use Rattle.laws_traces.specs.Shows.{shownParts}
 use Rattle.laws_traces.specs.laws.Reading.{reader-leaves}
-use Rattle.laws_calls.specs.laws.Refusals.{count-cases}
+use Rattle.laws_calls.specs.laws.Refusals.{ran-means, store-formed, count-cases}
 use Rattle.laws_calls.specs.laws.Untrue.{told-counts, told-difference}
 
 -- ---- "A refusal returns its number ..; nothing is written."
@@ -49,6 +54,13 @@ module _ (T : Table) (s : Store) (budget : ℕ) (out tr : List ℕ) (r : Traced)
 
   pub traced-difference : untrue s ≤ countEnd → untrue s′ < countEnd → untrue s + untrueOf (r .answer) ≡ untrue s′
   traced-difference = told-difference T s s′ (r .answer) (tracedMoves T s budget (length out) (length tr)) (c .tells .moves-are) (c .store) (c .tells .untrue-are)
+
+  -- ---- one that is not refused leaves the next due time that looking finds
+  pub traced-next : (m b n u : ℕ) → r .answer ≡ Ran m b n u → nextDue s′ ≡ earliest s′ (elements (shapeOf T))
+  traced-next m b n u e =
+      let S = shapeOf T in
+      let w = ran-means (judge T) (storeRefusal T S s) m b n u _ (sym e ∙ c .answer) in
+      rw (c .store) (formed-after T S (lawful T (accepted-means T (w .table))) (movesOf (r .answer)) s (store-formed T S s (w .call)) .parts .next)
 
 refused-none : (v : Verdict) (q n p f : ℕ) → Refused p f ≡ answerBy v q Done → countBy v q n ≡ 0
 refused-none (refused a b) q n p f e = refl

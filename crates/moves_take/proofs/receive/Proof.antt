@@ -2,7 +2,7 @@
 use borrow.Author.Needs.{needs}
 use mathlib.Core.List.{[]}
 use mathlib.Core.Path.{sym, _∙_}
-use Rattle.moves_take.proofs.Turns.{element-small, record-fits, received-basic, received-interface, received-delay, received-sink, received-no-more}
+use Rattle.moves_take.proofs.Turns.{element-in, element-small, sampled-kept, record-fits, received-basic, received-interface, received-delay, received-sink, received-no-more}
 use native.Mathlib.Omega.{arith}
 use Rattle.moves_take.proofs.receive.Statement.{statement}
 use Rattle.moves_take.proofs.receive.Tie as tie
@@ -23,7 +23,8 @@ sample-all-requires-2 : tie.Need-sample-all-requires-2
 sample-all-requires-2 c κs = search needs
 
 start-stop-requires : tie.Need-start-stop-requires
-start-stop-requires c κs = (c .before .before .before .before .before .before .before .before .before .before .before .before .before .pre .0, c .before .before .before .before .before .before .before .before .before .before .before .before .before .pre .1, element-small _ _ _ 0 _ [] 0 (c .before .before .before .before .before .before .before .before .before .before .before .before .before .pre .2) (c .before .before .before .before .before .before .before .before .before .before .before .before .before .pre .0) (c .before .before .before .before .before .before .before .before .before .before .before .before .before .pre .1), c .before .before .before .before .before .before .before .before .before .before .before .before .before .pre .3)
+start-stop-requires c κs =
+    (c .before .before .before .before .before .before .before .before .before .before .before .before .before .pre .0, c .before .before .before .before .before .before .before .before .before .before .before .before .before .pre .1, element-in _ _ _ 0 _ [] 0 (c .before .before .before .before .before .before .before .before .before .before .before .before .before .pre .2) (c .before .before .before .before .before .before .before .before .before .before .before .before .before .pre .0) (c .before .before .before .before .before .before .before .before .before .before .before .before .before .pre .1), c .before .before .before .before .before .before .before .before .before .before .before .before .before .pre .3, sampled-kept _ _ _ _ (c .before .before .before .before .before .before .before .before .before .before .before .before .before .pre .6) (c .before .before .before .before .before .before .before .before .put-input-in .ensures) (c .before .before .before .sample-all2 .ensures))
 
 write-record-requires : tie.Need-write-record-requires
 write-record-requires c κs = (c .before .before .before .before .before .before .before .before .before .before .pre .0, element-small _ _ _ 0 _ [] 0 (c .before .before .before .before .before .before .before .before .before .before .pre .2) (c .before .before .before .before .before .before .before .before .before .before .pre .0) (c .before .before .before .before .before .before .before .before .before .before .pre .1), c .before .before .before .before .before .before .before .before .before .before .pre .1, record-fits _ _ _ _ _ [] _ (c .before .before .before .before .before .before .before .before .before .before .pre .2) _ (c .before .before .match .keys4) (c .before .before .before .before .before .before .before .before .before .before .pre .4), c .before .before .before .before .before .before .before .before .before .before .pre .5)

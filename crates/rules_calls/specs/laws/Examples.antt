@@ -12,12 +12,13 @@ use Rattle.rules_walks.specs.Walk.{upTo}
 use Rattle.rules_tables.specs.declared.Shape.{Shape}
 use Rattle.rules_tables.specs.Ids.{inputs, outputs, variables, transitions}
 use Rattle.rules_store.specs.Layout.{need, elementAt}
-use Rattle.rules_store.specs.Word.{nowOf, putNow, runningElement, currentEvent, runningOf, spareAt, spareWord, dueFlag, dueTime, putDue}
-use Rattle.rules_store.specs.WellFormed.{spareOk, restOk, runningOk, partsOk, wellFormed}
+use Rattle.rules_store.specs.Word.{nowOf, putNow, runningElement, currentEvent, runningOf, spareAt, spareWord, dueFlag, dueTime, setDue, nextDue, putNext}
+use Rattle.rules_store.specs.Due.{dueAt, nothingDue, dueThen, sooner, earliest, putDue}
+use Rattle.rules_store.specs.WellFormed.{spareOk, isNext, nextOk, restOk, runningOk, partsOk, wellFormed}
 use Rattle.rules_moves.specs.Next.{move}
 use Rattle.rules_moves.specs.Take.{fireFound}
 use Rattle.rules_calls.specs.declared.Answer.the-variants.{Refused, Ran}
-use Rattle.rules_calls.specs.Calls.{dueAt, expired, expire, advanced, wrongTime, dueBefore, ofSource, valueCount}
+use Rattle.rules_calls.specs.Calls.{expired, expire, advanced, wrongTime, dueBefore, ofSource, valueCount}
 use Rattle.rules_calls.specs.Exports.{packed}
 use Rattle.rules_calls.specs.Refusals.{loadRefusal, storeRefusal, eventRefusal}
 use Rattle.rules_calls.specs.Run.{another, roomFor, stopAfter}
@@ -41,7 +42,7 @@ elementsOnly n =
 
 -- ---- the refusals of a store: 5 "store shorter than its need", 6 "store not well formed"
 pub store-refused : map (storeRefusal [] (elementsOnly 0)) (replicate 15 0 ∷ set (replicate 16 0) 9 1 ∷ replicate 16 0 ∷ []) ≡ 5 ∷ 6 ∷ 0 ∷ []
-unfolding storeRefusal wellFormed spareOk runningOk restOk partsOk allTo nowOf runningElement currentEvent runningOf spareWord spareAt need inputs variables
+unfolding storeRefusal wellFormed spareOk nextOk isNext earliest nextDue runningOk restOk partsOk allTo nowOf runningElement currentEvent runningOf spareWord spareAt need inputs variables
 store-refused = refl
 
 -- a load is not refused for what the store has
@@ -56,7 +57,7 @@ wrong-times = refl
 
 -- ---- 8 "advance beyond the due time of a delay", and each "delay due at t": the one element is due at 20
 abbrev waits : List ℕ
-waits = set (set (replicate 19 0) 17 1) 18 20
+waits = set (set (set (set (replicate 19 0) 9 1) 10 20) 17 1) 18 20
 
 pub due-before : map (λ (t : ℕ). dueBefore waits t 0) (19 ∷ 20 ∷ 21 ∷ []) ≡ false ∷ false ∷ true ∷ []
 unfolding dueBefore dueFlag dueTime elementAt
@@ -68,8 +69,23 @@ unfolding advanced expire dueAt upTo choose putNow dueFlag dueTime elementAt
 not-yet = refl
 
 pub expires : advanced [] (elementsOnly 1) 20 waits ≡ set (replicate 19 0) 0 20
-unfolding advanced expire expired dueAt upTo choose putNow dueFlag dueTime putDue elementAt fireFound firstFrom outputs
+unfolding advanced expire expired dueAt upTo choose putNow dueFlag dueTime putDue setDue putNext earliest sooner elementAt fireFound firstFrom outputs
 expires = refl
+
+-- the next due time with it: of three elements, two due at 20 and one at 30 or not at all; then of one due at 0 at now 0, which an advance to 0 fires
+abbrev dues : (g u : ℕ) → List ℕ
+dues g u = putDue (elementsOnly 3) 0 1 20 (putDue (elementsOnly 3) 1 g u (putDue (elementsOnly 3) 2 1 20 (replicate 25 0)))
+
+pub advance-keeps : map (λ (s : List ℕ). nextDue (advanced [] (elementsOnly 3) 20 s)) (dues 1 30 ∷ dues 0 0 ∷ []) ≡ dueThen 30 ∷ nothingDue ∷ []
+unfolding advanced expire expired dueAt upTo choose putNow nextDue dueFlag dueTime putDue setDue putNext earliest sooner elementAt fireFound firstFrom outputs
+advance-keeps = refl
+
+abbrev at-once : List ℕ
+at-once = putDue (elementsOnly 1) 0 1 0 (replicate 19 0)
+
+pub due-at-nought : map nextDue (at-once ∷ advanced [] (elementsOnly 1) 0 at-once ∷ []) ≡ dueThen 0 ∷ nothingDue ∷ []
+unfolding advanced expire expired dueAt upTo choose putNow nextDue dueFlag dueTime putDue setDue putNext earliest sooner elementAt fireFound firstFrom outputs
+due-at-nought = refl
 
 -- ---- 9 "arrival names no event output of a source", 10 "birth above now", 11 "number of values differs from the event's associations"; the first that holds
 module _ (T : List ℕ) (S : Shape) (s : List ℕ) (o birth : ℕ) (values : List ℕ) where

@@ -20,7 +20,8 @@ use Rattle.rules_tables.specs.Ids.{inputs, variables, associations, actions, co
 use Rattle.rules_tables.specs.Owned.{belongs, isNth}
 use Rattle.rules_tables.specs.Actions.{actionOf, actionNumber}
 use Rattle.rules_store.specs.Layout.{elementAt, inputAt, variableAt}
-use Rattle.rules_store.specs.Word.{counted, putOwner, runningOf, putRunning, overwritten, putOverwritten, untrue, putUntrue, dueFlag, putDue, waiting, birthOf, lastUpdate, putInput, value, putValue, buffer}
+use Rattle.rules_store.specs.Word.{counted, putOwner, runningOf, putRunning, overwritten, putOverwritten, untrue, putUntrue, dueFlag, dueTime, setDue, putNext, waiting, birthOf, lastUpdate, putInput, value, putValue, buffer}
+use Rattle.rules_store.specs.Due.{sooner, earliest, putDue}
 use Rattle.rules_moves.specs.declared.Key.{Key}
 use Rattle.rules_moves.specs.declared.Next.the-variants.{Idle, Back}
 use Rattle.rules_moves.specs.Act.{stepOutcome, resultPut, untrueStep, countUntrue, oneStep, eventOf, endMove}
@@ -172,22 +173,22 @@ abbrev delaying : List ℕ
 delaying = frame 1 2 0 0 0 0 ++ frame 2 0 0 0 0 0 ++ frame 2 1 0 0 0 0 ++ frame 4 0 0 0 0 0 ++ frame 5 0 0 0 0 0
 
 abbrev clocked : (flag at : ℕ) → List ℕ
-clocked flag at = 9 ∷ replicate 16 0 ++ (flag ∷ at ∷ 1 ∷ 3 ∷ 5 ∷ 1 ∷ 4 ∷ 6 ∷ 30 ∷ 50 ∷ [])
+clocked flag at = 9 ∷ replicate 8 0 ++ (flag ∷ at ∷ replicate 6 0 ++ (flag ∷ at ∷ 1 ∷ 3 ∷ 5 ∷ 1 ∷ 4 ∷ 6 ∷ 30 ∷ 50 ∷ []))
 
--- due flag and due time, and DT, once these events are taken
+-- the next due time, due flag and due time, and DT, once these events are taken
 abbrev afterwards : List ℕ → List ℕ → List ℕ
-afterwards [] s = at (17 ∷ 18 ∷ 25 ∷ []) s
+afterwards [] s = at (9 ∷ 10 ∷ 17 ∷ 18 ∷ 25 ∷ []) s
 afterwards (i ∷ is) s = afterwards is (taken delaying (frames 1 2 0 1 1 0 0) i 9 s)
 
 -- START; STOP; STOP and then START: of a delay that is not due, of one due at 20, and of one due now. A START that finds it due leaves that, and "DT is still
 -- sampled"; one after STOP counts
 pub delay-takes :
     map (λ (is : List ℕ). map (afterwards is) (clocked 0 0 ∷ clocked 1 20 ∷ clocked 1 9 ∷ [])) ((0 ∷ []) ∷ (1 ∷ []) ∷ (1 ∷ 0 ∷ []) ∷ [])
-    ≡ ((1 ∷ 59 ∷ 50 ∷ []) ∷ (1 ∷ 20 ∷ 50 ∷ []) ∷ (1 ∷ 9 ∷ 50 ∷ []) ∷ [])
-    ∷ ((0 ∷ 0 ∷ 30 ∷ []) ∷ (0 ∷ 0 ∷ 30 ∷ []) ∷ (0 ∷ 0 ∷ 30 ∷ []) ∷ [])
-    ∷ ((1 ∷ 59 ∷ 50 ∷ []) ∷ (1 ∷ 59 ∷ 50 ∷ []) ∷ (1 ∷ 59 ∷ 50 ∷ []) ∷ [])
+    ≡ ((1 ∷ 59 ∷ 1 ∷ 59 ∷ 50 ∷ []) ∷ (1 ∷ 20 ∷ 1 ∷ 20 ∷ 50 ∷ []) ∷ (1 ∷ 9 ∷ 1 ∷ 9 ∷ 50 ∷ []) ∷ [])
+    ∷ ((0 ∷ 0 ∷ 0 ∷ 0 ∷ 30 ∷ []) ∷ (0 ∷ 0 ∷ 0 ∷ 0 ∷ 30 ∷ []) ∷ (0 ∷ 0 ∷ 0 ∷ 0 ∷ 30 ∷ []) ∷ [])
+    ∷ ((1 ∷ 59 ∷ 1 ∷ 59 ∷ 50 ∷ []) ∷ (1 ∷ 59 ∷ 1 ∷ 59 ∷ 50 ∷ []) ∷ (1 ∷ 59 ∷ 1 ∷ 59 ∷ 50 ∷ []) ∷ [])
     ∷ []
-unfolding taken settled settle sampled sample speaks fireFound firedBy upTo startStop started isStart dtOf ticksIn dueFlag putDue birthOf putInput elementAt inputAt value putValue buffer variableAt isNth belongs firstFrom countIf choose inputs variables associations flagAt fieldAt halfAt
+unfolding taken settled settle sampled sample speaks fireFound firedBy upTo startStop started isStart dtOf ticksIn dueFlag putDue setDue putNext earliest sooner dueTime birthOf putInput elementAt inputAt value putValue buffer variableAt isNth belongs firstFrom countIf choose inputs variables associations flagAt fieldAt halfAt
 delay-takes = refl
 
 -- ---- "Mode 2, action's steps done: its event, if any, is fired with the current birth; next action, or 0 after the last, step 0": an action without steps fires

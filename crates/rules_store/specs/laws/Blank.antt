@@ -11,7 +11,7 @@ use Rattle.rules_walks.specs.laws.Walk.{upTo-carries}
 use Rattle.rules_tables.specs.declared.Shape.{Shape}
 use Rattle.rules_store.specs.Layout.{need, elementAt, inputAt, variableAt}
 use Rattle.rules_store.specs.laws.Spare.{spare-below}
-use Rattle.rules_store.specs.Word.{spareAt, nowOf, runningElement, currentEvent, runningOf, untrue, spareWord, chartState, dueFlag, dueTime, waiting, birthOf, lastUpdate, buffer}
+use Rattle.rules_store.specs.Word.{spareAt, nowOf, runningElement, currentEvent, runningOf, nextDue, untrue, spareWord, chartState, dueFlag, dueTime, waiting, birthOf, lastUpdate, buffer}
 use Rattle.rules_store.specs.Load.{zeroes}
 use Rattle.rules_store.specs.Blank.{Zeroed, Blank}
 
@@ -28,12 +28,13 @@ zeroes-at n s h =
     }) (record { long = refl; at = λ p q. absurd (not-suc-le-zero q) })
 
 pub blank : (S : Shape) (s x : List ℕ) → need S ≤ length s → Zeroed s (need S) x → Blank S x
-unfolding need nowOf untrue spareWord runningElement currentEvent runningOf chartState dueFlag dueTime waiting birthOf lastUpdate buffer elementAt inputAt variableAt
+unfolding need nowOf untrue nextDue spareWord runningElement currentEvent runningOf chartState dueFlag dueTime waiting birthOf lastUpdate buffer elementAt inputAt variableAt
 blank S s x h w =
     record {
       long = let z = w .long in omega arith;
       now = w .at 0 (omega arith);
       untrue-none = w .at 11 (omega arith);
+      next = rw (w .at 9 (omega arith), w .at 10 (omega arith));
       spare = λ j l. w .at (spareAt j) (omega (arith, spare-below j l));
       element = w .at 1 (omega arith);
       event = w .at 2 (omega arith);

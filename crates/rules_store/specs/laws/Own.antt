@@ -6,12 +6,13 @@ use native.Mathlib.Omega.{arith}
 use lib.ListN.{length, set, length-set}
 use lib.Seq.{getD-set-same, getD-set-other}
 use Rattle.rules_tables.specs.declared.Shape.{Shape}
+use Rattle.rules_store.specs.declared.NextDue.{NextDue}
 use Rattle.rules_store.specs.declared.Running.{Running}
 use Rattle.rules_tables.specs.Ids.{elements, inputs, variables}
 use Rattle.rules_store.specs.Layout.{need, elementAt, inputAt, variableAt}
-use Rattle.rules_store.specs.Word.{nowOf, putNow, runningElement, currentEvent, putOwner, runningOf, putRunning, overwritten, putOverwritten, untrue, putUntrue, chartState, putChartState, dueFlag, dueTime, putDue, waiting, birthOf, lastUpdate, putInput, value, putValue, buffer, putBuffer}
+use Rattle.rules_store.specs.Word.{nowOf, putNow, runningElement, currentEvent, putOwner, runningOf, putRunning, overwritten, putOverwritten, nextDue, putNext, untrue, putUntrue, chartState, putChartState, dueFlag, dueTime, setDue, waiting, birthOf, lastUpdate, putInput, value, putValue, buffer, putBuffer}
 use Rattle.rules_store.specs.Part.{SameDue, SameInput, Outside}
-use Rattle.rules_store.specs.laws.Part.{same-due, same-input, outside-none, outside-set}
+use Rattle.rules_store.specs.laws.Part.{same-due, same-input, outside-none, outside-set, due-words, next-words, input-words}
 use Rattle.rules_store.specs.Own.{Input, Due}
 
 module _ (S : Shape) (s : List ℕ) (long : need S ≤ length s) where
@@ -34,6 +35,15 @@ module _ (S : Shape) (s : List ℕ) (long : need S ≤ length s) where
   pub untrue-put : (n : ℕ) → untrue (putUntrue n s) ≡ n
   unfolding untrue putUntrue need
   untrue-put n = getD-set-same s 11 n 0 (omega arith)
+
+  pub next-put : (a : NextDue) → nextDue (putNext a s) ≡ a
+  unfolding nextDue putNext need
+  next-put a =
+      let x = set s 9 (a .due) in
+      rw (
+        getD-set-other x 10 9 (a .time) 0 (λ e. omega arith) ∙ getD-set-same s 9 (a .due) 0 (omega arith),
+        getD-set-same x 10 (a .time) 0 (omega (arith, length-set s 9 (a .due))),
+      )
 
   pub running-put : (r : Running) → runningOf (putRunning r s) ≡ r
   unfolding runningOf putRunning need
@@ -62,9 +72,9 @@ module _ (S : Shape) (s : List ℕ) (long : need S ≤ length s) where
   unfolding chartState putChartState need elementAt
   chart-put el q l = getD-set-same s (elementAt el) q 0 (omega arith)
 
-  pub due-put : (el flag t : ℕ) → el < elements S → Due el flag t (putDue el flag t s)
-  unfolding dueFlag dueTime putDue need elementAt
-  due-put el flag t l =
+  pub due-set : (el flag t : ℕ) → el < elements S → Due el flag t (setDue el flag t s)
+  unfolding dueFlag dueTime setDue need elementAt
+  due-set el flag t l =
       let a = set s (elementAt el + 1) flag in
       record {
         flagged = getD-set-other a (elementAt el + 2) (elementAt el + 1) t 0 (λ e. omega arith) ∙ getD-set-same s (elementAt el + 1) flag 0 (omega arith);
@@ -115,28 +125,18 @@ module _ (S : Shape) (s : List ℕ) where
   unfolding chartState putChartState elementAt
   chart-other el k q n = getD-set-other s (elementAt el) (elementAt k) q 0 (λ e. n (omega arith))
 
-  pub due-other : (el k flag t : ℕ) → (k ≡ el → ⊥) → SameDue s (putDue el flag t s) k
-  unfolding putDue elementAt
-  due-other el k flag t n =
-      let lo = elementAt el + 1 in
-      let hi = elementAt el + 3 in
-      let o =
-      outside-set lo hi s (set s (elementAt el + 1) flag) (elementAt el + 2) t (omega arith) (omega arith)
-      (outside-set lo hi s s (elementAt el + 1) flag (omega arith) (omega arith) (outside-none lo hi s)) in
-      same-due s (putDue el flag t s) k (λ p a b. o .apart p (λ u v. n (omega arith)))
+  pub set-other : (el k flag t : ℕ) → (k ≡ el → ⊥) → SameDue s (setDue el flag t s) k
+  unfolding elementAt
+  set-other el k flag t n = same-due s (setDue el flag t s) k (λ p a b. due-words s el flag t .apart p (λ u v. n (omega arith)))
+
+  -- the next due time that is put leaves the due words of all elements
+  pub next-leaves-due : (a : NextDue) (k : ℕ) → SameDue s (putNext a s) k
+  unfolding elementAt
+  next-leaves-due a k = same-due s (putNext a s) k (λ p c d. next-words s a .apart p (λ u v. omega arith))
 
   pub input-other : (i k flag birth last : ℕ) → (k ≡ i → ⊥) → SameInput S s (putInput S i flag birth last s) k
-  unfolding putInput inputAt
-  input-other i k flag birth last n =
-      let lo = inputAt S i in
-      let hi = inputAt S i + 3 in
-      let x = set s (inputAt S i) flag in
-      let y = set x (inputAt S i + 1) birth in
-      let o =
-      outside-set lo hi s y (inputAt S i + 2) last (omega arith) (omega arith)
-      (outside-set lo hi s x (inputAt S i + 1) birth (omega arith) (omega arith)
-      (outside-set lo hi s s (inputAt S i) flag (omega arith) (omega arith) (outside-none lo hi s))) in
-      same-input S s (putInput S i flag birth last s) k (λ p a b. o .apart p (λ u v. n (omega arith)))
+  unfolding inputAt
+  input-other i k flag birth last n = same-input S s (putInput S i flag birth last s) k (λ p a b. input-words s S i flag birth last .apart p (λ u v. n (omega arith)))
 
   -- a running block that is put leaves its element and event
   pub element-running : (r : Running) → runningElement (putRunning r s) ≡ runningElement s

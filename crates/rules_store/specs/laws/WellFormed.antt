@@ -1,5 +1,5 @@
 -- The test of a store and its facts say the same.
-use mathlib.Core.Path.{_≡_, refl}
+use mathlib.Core.Path.{_≡_, refl, ap}
 use mathlib.Core.List.{List}
 use mathlib.Core.Bool.{Bool, true, false}
 use mathlib.Core.Logic.{_⊎_, inl, inr, ⊎-elim}
@@ -14,12 +14,15 @@ use Rattle.rules_walks.specs.All.{allTo}
 use Rattle.rules_walks.specs.laws.All.{all-at, all-intro}
 use Rattle.rules_tables.specs.Frame.{flagAt, fieldAt}
 use Rattle.rules_tables.specs.declared.Shape.{Shape}
+use Rattle.rules_store.specs.declared.NextDue.{NextDue}
 use Rattle.rules_store.specs.declared.Running.{Running}
 use Rattle.rules_tables.specs.Ids.{elements, inputs, variables, states, inputFrame, variableFrame, stateFrame}
 use Rattle.rules_store.specs.Layout.{need}
-use Rattle.rules_store.specs.Word.{largestDue, largestTime, nowOf, runningElement, currentEvent, runningOf, spares, spareWord, chartState, dueFlag, dueTime, waiting, birthOf, lastUpdate, buffer}
+use Rattle.rules_store.specs.Word.{largestDue, largestTime, nowOf, runningElement, currentEvent, runningOf, nextDue, spares, spareWord, chartState, dueFlag, dueTime, waiting, birthOf, lastUpdate, buffer}
 use Rattle.rules_tables.specs.Actions.{actionOf}
-use Rattle.rules_store.specs.WellFormed.{spareOk, restOk, ownerOk, stepOk, modeOk, runningOk, chartOk, dueOk, elementOk, inputOk, variableOk, partsOk, wellFormed}
+use Rattle.rules_store.specs.WellFormed.{spareOk, isNext, nextOk, restOk, ownerOk, stepOk, modeOk, runningOk, chartOk, dueOk, elementOk, inputOk, variableOk, partsOk, wellFormed}
+use Rattle.rules_store.specs.Due.{earliest}
+use Rattle.rules_store.specs.laws.Due.{alike-next}
 use Rattle.rules_store.specs.Formed.{InputFact, DueFact, ChartFact, Rest, Mode, Owner, Block, Formed}
 
 -- ---- from the test
@@ -112,6 +115,11 @@ module _ (T : List ℕ) (S : Shape) (s : List ℕ) where
         step = eqb-true (runningOf s .step) 0 (both-right (eqb (runningOf s .action) 0) (eqb (runningOf s .step) 0) (b .2));
       }
 
+next-fact : (a b : NextDue) → isNext a b ≡ true → a ≡ b
+unfolding isNext
+next-fact a b h =
+    alike-next a b (eqb-true _ _ (both-left (eqb (a .due) (b .due)) (eqb (a .time) (b .time)) h)) (eqb-true _ _ (both-right (eqb (a .due) (b .due)) (eqb (a .time) (b .time)) h))
+
 mode-fact : (T : List ℕ) (S : Shape) (r : Running) (q : ℕ) → modeOk T S r q ≡ true → Mode T S r q
 unfolding modeOk
 mode-fact T S r q = by (eqb (r .mode) 1) refl
@@ -173,23 +181,35 @@ module _ (T : List ℕ) (S : Shape) (s : List ℕ) where
                 };
           }
 
+  -- the stored next due time is the one found by looking
+  pub well-formed-next : wellFormed T S s ≡ true → nextDue s ≡ earliest s (elements S)
+  unfolding wellFormed nextOk
+  well-formed-next h =
+      let inT = leb (nowOf s) largestTime in
+      let sp = allTo (spareOk s) spares in
+      let re = both (runningOk T S (runningOf s) s) (partsOk T S s) in
+      next-fact (nextDue s) (earliest s (elements S)) (both-left (nextOk S s) re (both3 inT sp (both (nextOk S s) re) h .2))
+
   pub formed-means : need S ≤ length s → wellFormed T S s ≡ true → Formed T S s
   unfolding wellFormed partsOk elementOk variableOk spareOk
   formed-means long h =
       let inT = leb (nowOf s) largestTime in
       let sp = allTo (spareOk s) spares in
       let ru = runningOk T S (runningOf s) s in
-      let a = both3 inT sp (both ru (partsOk T S s)) h in
+      let nx = nextOk S s in
+      let a = both3 inT sp (both nx (both ru (partsOk T S s))) h in
+      let b = both3 nx ru (partsOk T S s) (a .2) in
       let el = allTo (elementOk T S s) (elements S) in
       let iO = allTo (inputOk S s) (inputs S) in
       let vO = allTo (variableOk T S s) (variables S) in
-      let p = both3 el iO vO (both-right ru (partsOk T S s) (a .2)) in
+      let p = both3 el iO vO (b .2) in
       record {
         parts =
             record {
               long = long;
               in-time = leb-true (nowOf s) largestTime (a .0);
               spare = λ j l. eqb-true (spareWord s j) 0 (all-at (spareOk s) spares j l (a .1));
+              next = well-formed-next h;
               charts = λ k l. chart-fact T S s k (both-left (chartOk T S s k) (dueOk T s k) (all-at (elementOk T S s) (elements S) k l (p .0)));
               dues = λ k l. due-fact T S s k (both-right (chartOk T S s k) (dueOk T s k) (all-at (elementOk T S s) (elements S) k l (p .0)));
               events = λ i l. input-fact T S s i (all-at (inputOk S s) (inputs S) i l (p .1));
@@ -198,7 +218,7 @@ module _ (T : List ℕ) (S : Shape) (s : List ℕ) where
                   eqb-true (buffer S s v) 0
                   (either-else (eqb (flagAt T (variableFrame S v)) 0) (eqb (buffer S s v) 0) (all-at (variableOk T S s) (variables S) v l (p .2)) (ne-eqb (flagAt T (variableFrame S v)) 0 n));
             };
-        block = block-fact (both-left ru (partsOk T S s) (a .2));
+        block = block-fact (b .1);
       }
 
 -- ---- and back
@@ -245,6 +265,10 @@ module _ (T : List ℕ) (S : Shape) (s : List ℕ) where
       rw (eq-eqb (runningElement s) 0 (w .element), eq-eqb (currentEvent s) 0 (w .event), eq-eqb (runningOf s .birth) 0 (w .birth), eq-eqb (runningOf s .live) 0 (w .live), eq-eqb (runningOf s .action) 0 (w .action))
       (eq-eqb (runningOf s .step) 0 (w .step))
 
+next-ok : (a b : NextDue) → a ≡ b → isNext a b ≡ true
+unfolding isNext
+next-ok a b e = rw (eq-eqb (a .due) (b .due) (ap (λ (x : NextDue). x .due) e)) (eq-eqb (a .time) (b .time) (ap (λ (x : NextDue). x .time) e))
+
 mode-ok : (T : List ℕ) (S : Shape) (r : Running) (q : ℕ) → Mode T S r q → modeOk T S r q ≡ true
 unfolding modeOk
 mode-ok T S r q w =
@@ -273,12 +297,13 @@ module _ (T : List ℕ) (S : Shape) (s : List ℕ) where
       (mode-ok T S (runningOf s) (chartState s (runningElement s - 1)) (b .mode))) (test-cases (eqb (runningOf s .mode) 0))
 
   pub formed-tests : Formed T S s → wellFormed T S s ≡ true
-  unfolding wellFormed partsOk elementOk spareOk
+  unfolding wellFormed partsOk elementOk spareOk nextOk
   formed-tests w =
       let p = w .parts in
       rw (
         le-leb (nowOf s) largestTime (p .in-time),
         all-intro (spareOk s) spares (λ j l. eq-eqb (spareWord s j) 0 (p .spare j l)),
+        next-ok (nextDue s) (earliest s (elements S)) (p .next),
         block-ok (w .block),
         all-intro (elementOk T S s) (elements S) (λ k l. both-intro (chartOk T S s k) (dueOk T s k) (chart-ok T S s k (p .charts k l)) (due-ok T S s k (p .dues k l))),
         all-intro (inputOk S s) (inputs S) (λ i l. input-ok T S s i (p .events i l)),

@@ -16,7 +16,8 @@ use Rattle.rules_tables.specs.declared.Shape.{Shape}
 use Rattle.rules_tables.specs.Ids.{inputs, outputs, variables, associations, states, transitions, connections, links}
 use Rattle.rules_tables.specs.Owned.{belongs, isNth}
 use Rattle.rules_store.specs.Layout.{elementAt, inputAt, variableAt}
-use Rattle.rules_store.specs.Word.{Store, nowOf, putOwner, runningOf, putRunning, chartState, putChartState, putDue, waiting, birthOf, lastUpdate, putInput, value, putValue}
+use Rattle.rules_store.specs.Word.{Store, nowOf, putOwner, runningOf, putRunning, chartState, putChartState, waiting, birthOf, lastUpdate, putInput, value, putValue}
+use Rattle.rules_store.specs.Due.{putDue}
 use Rattle.rules_moves.specs.Partner.{partnerOutput}
 use Rattle.rules_moves.specs.Carry.{speaks}
 use Rattle.rules_moves.specs.Least.{beats, better, look, least}

@@ -1,25 +1,19 @@
+-- `advance_by` meets its contract: now, then what is due.
 use Rattle.rules_calls.specs.Calls.{advanced}
+use Rattle.calls_run.proofs.Turns.{timed-kept}
 use borrow.Author.Needs.{needs}
 use Rattle.calls_run.proofs.calls.advance_by.Statement.{statement}
 use Rattle.calls_run.proofs.calls.advance_by.Tie as tie
-use Rattle.calls_run.proofs.calls.advance_by.Reads as reads
-use Rattle.calls_run.proofs.calls.advance_by.Lts as lts
-use Rattle.calls_run.proofs.calls.expire_all.Reads as expire-all-reads
-use Rattle.store_words.proofs.word.put_time.Reads as put-time-reads
 
--- src/calls.rt:69:5
 put-time-requires : tie.Need-put-time-requires
 put-time-requires c κs = search needs
 
--- src/calls.rt:70:5
 expire-all-requires : tie.Need-expire-all-requires
-expire-all-requires c κs = search needs
+expire-all-requires c κs = (c .before .before .before .before .before .before .before .pre .0, c .before .before .before .before .before .before .before .pre .1, c .before .before .before .before .before .before .before .pre .2, timed-kept (c .before .before .before .before .before .before .before .args .t .now) _ _ _ (c .before .before .before .before .before .before .before .pre .3) (c .before .before .before .put-time .ensures))
 
--- src/calls.rt:65:1
 same-length : tie.Need-same-length
 same-length c = search needs
 
--- src/calls.rt:65:1
 returns : tie.Need-returns
 unfolding advanced
 returns c = rw (c .before .before .expire-all .ensures, c .before .before .before .before .before .before .put-time .ensures)

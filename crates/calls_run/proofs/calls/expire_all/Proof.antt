@@ -2,8 +2,9 @@
 use Rattle.calls_run.proofs.calls.expire_all.Statement.{statement}
 use Rattle.rules_walks.specs.Walk.{upTo}
 use Rattle.rules_walks.specs.laws.Walk.{upTo-none, upTo-more, upTo-end}
+use Rattle.rules_store.specs.Earliest.{NextKept}
 use Rattle.rules_calls.specs.Calls.{expire}
-use Rattle.calls_run.proofs.Turns.{expire-due, expire-not}
+use Rattle.calls_run.proofs.Turns.{expire-due, expire-not, expired-kept}
 use borrow.Author.Needs.{needs}
 use lib.ListN.{length}
 use mathlib.Core.Logic.{⊎-elim}
@@ -14,13 +15,13 @@ use Rattle.calls_run.proofs.calls.expire_all.Tie as tie
 use Rattle.rules_tables.specs.Ids.{elements}
 
 abbrev Inv-loop : tie.InvT-loop
-Inv-loop t ix store₀ s to n el₀ store el = (el ≤ elements s) × (store ≡ upTo (expire t s to) el store₀) × (length store ≡ length store₀)
+Inv-loop t ix store₀ s to n el₀ store el = (el ≤ elements s) × (store ≡ upTo (expire t s to) el store₀) × (length store ≡ length store₀) × NextKept s store
 
 abbrev μ-loop : tie.MeasureT-loop
 μ-loop t ix store₀ s to n el₀ store el = elements s - el
 
 loop-holds : tie.Need-loop-holds Inv-loop μ-loop
-loop-holds c = (search needs, upTo-none _ _, refl)
+loop-holds c = (search needs, upTo-none _ _, refl, c .before .before .pre .3)
 
 due-at-requires : tie.Need-due-at-requires Inv-loop μ-loop
 due-at-requires c κs = search needs
@@ -39,8 +40,8 @@ loop-again c =
     let l = c .before .before .before .before .loop in
     let h = c .before .due-at .ensures in
     ⊎-elim
-    (λ w. (omega arith, upTo-more _ _ _ _ _ (l .inv .1) (expire-due _ _ _ _ _ _ h (w .0 .taken) (w .5 ∙ w .2 .ensures)), omega (arith, ap length (w .5))))
-    (λ w. (omega arith, upTo-more _ _ _ _ _ (l .inv .1) (expire-not _ _ _ _ _ _ h (w .0 .left) (w .1)), omega (arith, ap length (w .1))))
+    (λ w. (omega arith, upTo-more _ _ _ _ _ (l .inv .1) (expire-due _ _ _ _ _ _ h (w .0 .taken) (w .5 ∙ w .2 .ensures)), omega (arith, ap length (w .5)), expired-kept _ _ _ _ _ (c .before .before .before .before .before .before .before .pre .2) (c .before .before .before .loop-test .taken) (l .inv .3) (w .5 ∙ w .2 .ensures)))
+    (λ w. (omega arith, upTo-more _ _ _ _ _ (l .inv .1) (expire-not _ _ _ _ _ _ h (w .0 .left) (w .1)), omega (arith, ap length (w .1)), rw (w .1) (l .inv .3)))
     (c .if1 .came)
 
 same-length : tie.Need-same-length Inv-loop μ-loop

@@ -1,7 +1,7 @@
 -- `expire_delay` meets its contract: its output is fired, and it is cleared.
 use borrow.Author.Needs.{needs}
 use Rattle.calls_run.proofs.calls.expire_delay.Statement.{statement}
-use Rattle.calls_run.proofs.Turns.{output-missing, output-fired, output-known}
+use Rattle.calls_run.proofs.Turns.{fired-kept, output-missing, output-fired, output-known}
 use Rattle.calls_run.proofs.calls.expire_delay.Tie as tie
 
 outputs-requires : tie.Need-outputs-requires
@@ -29,7 +29,7 @@ fire-requires : tie.Need-fire-requires
 fire-requires c κs = (c .before .before .before .before .before .before .before .before .pre .0, c .before .before .before .before .before .before .before .before .pre .2, output-known _ _ _ _ _ (c .before .before .before .before .before .outputs .ensures) (c .before .before .before .before .nth .ensures) (c .before .before .o .given .1))
 
 put-due-requires-2 : tie.Need-put-due-requires-2
-put-due-requires-2 c κs = search needs
+put-due-requires-2 c κs = (search needs, c .before .before .before .before .before .before .before .before .before .before .before .before .pre .1, fired-kept _ _ _ _ _ (c .before .before .before .before .before .before .before .before .before .before .before .before .pre .3) (c .before .before .before .before .before .before .before .before .before .before .before .before .pre .4) (c .before .before .before .fire .ensures))
 
 same-length-2 : tie.Need-same-length-2
 same-length-2 c = search needs

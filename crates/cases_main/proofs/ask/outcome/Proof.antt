@@ -45,6 +45,30 @@ part-outcome-on-end c = search needs
 outcome-on-requires-3 : tie.Need-outcome-on-requires-3
 outcome-on-requires-3 c κs = search needs
 
+sub-outcome-on-2 : tie.Need-sub-outcome-on-2
+sub-outcome-on-2 c = search needs
+
+part-outcome-on-start-2 : tie.Need-part-outcome-on-start-2
+part-outcome-on-start-2 c = search needs
+
+part-outcome-on-end-2 : tie.Need-part-outcome-on-end-2
+part-outcome-on-end-2 c = search needs
+
+outcome-on-requires-4 : tie.Need-outcome-on-requires-4
+outcome-on-requires-4 c κs = search needs
+
+sub-outcome-on-3 : tie.Need-sub-outcome-on-3
+sub-outcome-on-3 c = search needs
+
+part-outcome-on-start-3 : tie.Need-part-outcome-on-start-3
+part-outcome-on-start-3 c = search needs
+
+part-outcome-on-end-3 : tie.Need-part-outcome-on-end-3
+part-outcome-on-end-3 c = search needs
+
+outcome-on-requires-5 : tie.Need-outcome-on-requires-5
+outcome-on-requires-5 c κs = search needs
+
 returns-2 : tie.Need-returns-2
 returns-2 c = search needs
 
@@ -53,6 +77,12 @@ returns-3 c = search needs
 
 returns-4 : tie.Need-returns-4
 returns-4 c = search needs
+
+returns-5 : tie.Need-returns-5
+returns-5 c = search needs
+
+returns-6 : tie.Need-returns-6
+returns-6 c = search needs
 
 pub outcome-spec : {M : Type 1} → statement M
 outcome-spec =
@@ -71,6 +101,16 @@ outcome-spec =
     part-outcome-on-start
     part-outcome-on-end
     outcome-on-requires-3
+    sub-outcome-on-2
+    part-outcome-on-start-2
+    part-outcome-on-end-2
+    outcome-on-requires-4
+    sub-outcome-on-3
+    part-outcome-on-start-3
+    part-outcome-on-end-3
+    outcome-on-requires-5
     returns-2
     returns-3
-    returns-4)
+    returns-4
+    returns-5
+    returns-6)

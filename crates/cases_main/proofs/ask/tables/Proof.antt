@@ -7,10 +7,10 @@ use Rattle.cases_main.proofs.ask.tables.Statement.{statement}
 use Rattle.cases_main.proofs.ask.tables.Tie as tie
 
 abbrev Inv-loop : tie.InvT-loop
-Inv-loop t₀ i₀ t i = length t ≡ 468
+Inv-loop t₀ i₀ t i = length t ≡ 768
 
 abbrev μ-loop : tie.MeasureT-loop
-μ-loop t₀ i₀ t i = 468 - i
+μ-loop t₀ i₀ t i = 768 - i
 
 loop-holds : tie.Need-loop-holds Inv-loop μ-loop
 loop-holds c = search needs

@@ -1,8 +1,8 @@
--- `put_due` meets its contract: two writes, one after the other.
+-- `set_due` meets its contract: two writes, one after the other.
 use borrow.Author.Needs.{needs}
-use Rattle.store_words.proofs.word.put_due.Statement.{statement}
-use Rattle.rules_store.specs.Word.{putDue}
-use Rattle.store_words.proofs.word.put_due.Tie as tie
+use Rattle.store_words.proofs.word.set_due.Statement.{statement}
+use Rattle.rules_store.specs.Word.{setDue}
+use Rattle.store_words.proofs.word.set_due.Tie as tie
 
 element-at-requires : tie.Need-element-at-requires
 element-at-requires c κs = search needs
@@ -23,11 +23,11 @@ same-length : tie.Need-same-length
 same-length c = search needs
 
 returns : tie.Need-returns
-unfolding putDue
+unfolding setDue
 returns c = rw (← c .before .before .before .before .before .before .before .before .element-at .ensures .is, c .before .before .put2 .ensures, c .before .before .before .before .before .before .put .ensures)
 
-pub put-due-spec : {M : Type 1} → statement M
-put-due-spec =
+pub set-due-spec : {M : Type 1} → statement M
+set-due-spec =
     tie.close
     (tie.spec
     element-at-requires
