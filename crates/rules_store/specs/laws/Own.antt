@@ -12,7 +12,7 @@ use Rattle.rules_tables.specs.Ids.{elements, inputs, variables}
 use Rattle.rules_store.specs.Layout.{need, elementAt, inputAt, variableAt}
 use Rattle.rules_store.specs.Word.{nowOf, putNow, runningElement, currentEvent, putOwner, runningOf, putRunning, overwritten, putOverwritten, nextDue, putNext, untrue, putUntrue, chartState, putChartState, dueFlag, dueTime, setDue, waiting, birthOf, lastUpdate, putInput, value, putValue, buffer, putBuffer}
 use Rattle.rules_store.specs.Part.{SameDue, SameInput, Outside}
-use Rattle.rules_store.specs.laws.Part.{same-due, same-input, outside-none, outside-set, due-words, next-words, input-words}
+use Rattle.rules_store.specs.laws.Part.{same-due, same-input, outside-none, outside-set, due-touches, next-touches, input-touches}
 use Rattle.rules_store.specs.Own.{Input, Due}
 
 module _ (S : Shape) (s : List ℕ) (long : need S ≤ length s) where
@@ -127,16 +127,16 @@ module _ (S : Shape) (s : List ℕ) where
 
   pub set-other : (el k flag t : ℕ) → (k ≡ el → ⊥) → SameDue s (setDue el flag t s) k
   unfolding elementAt
-  set-other el k flag t n = same-due s (setDue el flag t s) k (λ p a b. due-words s el flag t .apart p (λ u v. n (omega arith)))
+  set-other el k flag t n = same-due s (setDue el flag t s) k (λ p a b. due-touches s el flag t .apart p (λ u v. n (omega arith)))
 
   -- the next due time that is put leaves the due words of all elements
   pub next-leaves-due : (a : NextDue) (k : ℕ) → SameDue s (putNext a s) k
   unfolding elementAt
-  next-leaves-due a k = same-due s (putNext a s) k (λ p c d. next-words s a .apart p (λ u v. omega arith))
+  next-leaves-due a k = same-due s (putNext a s) k (λ p c d. next-touches s a .apart p (λ u v. omega arith))
 
   pub input-other : (i k flag birth last : ℕ) → (k ≡ i → ⊥) → SameInput S s (putInput S i flag birth last s) k
   unfolding inputAt
-  input-other i k flag birth last n = same-input S s (putInput S i flag birth last s) k (λ p a b. input-words s S i flag birth last .apart p (λ u v. n (omega arith)))
+  input-other i k flag birth last n = same-input S s (putInput S i flag birth last s) k (λ p a b. input-touches s S i flag birth last .apart p (λ u v. n (omega arith)))
 
   -- a running block that is put leaves its element and event
   pub element-running : (r : Running) → runningElement (putRunning r s) ≡ runningElement s

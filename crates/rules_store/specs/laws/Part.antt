@@ -92,21 +92,21 @@ outside-set lo hi s x p a l h w =
 
 -- what each writer of several words, and of a value, touches
 module _ (s : List ℕ) where
-  pub due-words : (el flag t : ℕ) → Outside (elementAt el + 1) (elementAt el + 3) s (setDue el flag t s)
+  pub due-touches : (el flag t : ℕ) → Outside (elementAt el + 1) (elementAt el + 3) s (setDue el flag t s)
   unfolding setDue
-  due-words el flag t =
+  due-touches el flag t =
       let lo = elementAt el + 1 in
       let hi = elementAt el + 3 in
       outside-set lo hi s (set s (elementAt el + 1) flag) (elementAt el + 2) t (omega arith) (omega arith)
       (outside-set lo hi s s (elementAt el + 1) flag (omega arith) (omega arith) (outside-none lo hi s))
 
-  pub next-words : (a : NextDue) → Outside 9 11 s (putNext a s)
+  pub next-touches : (a : NextDue) → Outside 9 11 s (putNext a s)
   unfolding putNext
-  next-words a = outside-set 9 11 s (set s 9 (a .due)) 10 (a .time) (omega arith) (omega arith) (outside-set 9 11 s s 9 (a .due) (omega arith) (omega arith) (outside-none 9 11 s))
+  next-touches a = outside-set 9 11 s (set s 9 (a .due)) 10 (a .time) (omega arith) (omega arith) (outside-set 9 11 s s 9 (a .due) (omega arith) (omega arith) (outside-none 9 11 s))
 
-  pub input-words : (S : Shape) (i flag birth last : ℕ) → Outside (inputAt S i) (inputAt S i + 3) s (putInput S i flag birth last s)
+  pub input-touches : (S : Shape) (i flag birth last : ℕ) → Outside (inputAt S i) (inputAt S i + 3) s (putInput S i flag birth last s)
   unfolding putInput
-  input-words S i flag birth last =
+  input-touches S i flag birth last =
       let lo = inputAt S i in
       let hi = inputAt S i + 3 in
       let a = set s (inputAt S i) flag in
@@ -115,9 +115,9 @@ module _ (s : List ℕ) where
       (outside-set lo hi s a (inputAt S i + 1) birth (omega arith) (omega arith)
       (outside-set lo hi s s (inputAt S i) flag (omega arith) (omega arith) (outside-none lo hi s)))
 
-  pub value-word : (S : Shape) (v x : ℕ) → Outside (variableAt S v) (variableAt S v + 1) s (putValue S v x s)
+  pub value-touches : (S : Shape) (v x : ℕ) → Outside (variableAt S v) (variableAt S v + 1) s (putValue S v x s)
   unfolding putValue
-  value-word S v x = let at = variableAt S v in outside-set at (at + 1) s s at x (omega arith) (omega arith) (outside-none at (at + 1) s)
+  value-touches S v x = let at = variableAt S v in outside-set at (at + 1) s s at x (omega arith) (omega arith) (outside-none at (at + 1) s)
 
 -- a word that stays need not be written
 pub set-back : (s : List ℕ) (k : ℕ) → set s k (getD s k 0) ≡ s

@@ -13,7 +13,7 @@ use Rattle.rules_tables.specs.Ids.{elements}
 use Rattle.rules_store.specs.Layout.{need, elementAt, inputAt, variableAt}
 use Rattle.rules_store.specs.Word.{dueFlag, dueTime, setDue, nextDue, putNext, putInput, putValue}
 use Rattle.rules_store.specs.Part.{Part, due, just, SameDue, Leaves, Outside}
-use Rattle.rules_store.specs.laws.Part.{set-back, same-due, same-next, input-words, value-word}
+use Rattle.rules_store.specs.laws.Part.{set-back, same-due, same-next, input-touches, value-touches}
 use Rattle.rules_store.specs.Own.{Due}
 use Rattle.rules_store.specs.laws.Own.{next-put, due-set, set-other, next-leaves-due}
 use Rattle.rules_store.specs.laws.Writer.{leaves-next, leaves-set}
@@ -108,8 +108,8 @@ past-keeps S lo hi s s′ l o k =
 module _ (S : Shape) (s : List ℕ) (k : NextKept S s) where
   pub value-keeps : (v x : ℕ) → NextKept S (putValue S v x s)
   unfolding variableAt inputAt
-  value-keeps v x = past-keeps S (variableAt S v) (variableAt S v + 1) s (putValue S v x s) (omega arith) (value-word s S v x) k
+  value-keeps v x = past-keeps S (variableAt S v) (variableAt S v + 1) s (putValue S v x s) (omega arith) (value-touches s S v x) k
 
   pub input-keeps : (i flag birth last : ℕ) → NextKept S (putInput S i flag birth last s)
   unfolding inputAt
-  input-keeps i flag birth last = past-keeps S (inputAt S i) (inputAt S i + 3) s (putInput S i flag birth last s) (omega arith) (input-words s S i flag birth last) k
+  input-keeps i flag birth last = past-keeps S (inputAt S i) (inputAt S i + 3) s (putInput S i flag birth last s) (omega arith) (input-touches s S i flag birth last) k

@@ -17,7 +17,7 @@ use Rattle.rules_store.specs.Word.{nowOf, putNow, putOwner, putRunning, 
 use Rattle.rules_store.specs.Part.{Part, time, block, count, untrues, chart, due, input, sampled, computed, buffered, Leaves, Outside}
 use Rattle.rules_store.specs.Due.{earliest, putDue}
 use Rattle.rules_store.specs.laws.Spare.{spare-from, spare-below}
-use Rattle.rules_store.specs.laws.Part.{leaves-then, outside-none, outside-set, due-words, next-words, input-words, value-word, same-block, same-due, same-next, same-input}
+use Rattle.rules_store.specs.laws.Part.{leaves-then, outside-none, outside-set, due-touches, next-touches, input-touches, value-touches, same-block, same-due, same-next, same-input}
 
 module _ (T : List ℕ) (S : Shape) (f : Part → Bool) (s : List ℕ) where
   -- a word of the first sixteen that is no spare one: what lies past them stays
@@ -91,7 +91,7 @@ module _ (T : List ℕ) (S : Shape) (f : Part → Bool) (s : List ℕ) where
 
   pub leaves-next : (a : NextDue) → f due ≡ true → Leaves T S f s (putNext a s)
   leaves-next a e =
-      low 9 11 (putNext a s) (omega arith) (spares-past 11 (omega arith)) (next-words s a) (λ h. omega arith) (λ h p l u m n. omega arith) (λ h. inl (omega arith)) (λ h. clash (sym h ∙ e))
+      low 9 11 (putNext a s) (omega arith) (spares-past 11 (omega arith)) (next-touches s a) (λ h. omega arith) (λ h p l u m n. omega arith) (λ h. inl (omega arith)) (λ h. clash (sym h ∙ e))
       (λ h. inr (omega arith))
 
   -- words past the first sixteen: those stay
@@ -132,13 +132,13 @@ module _ (T : List ℕ) (S : Shape) (f : Part → Bool) (s : List ℕ) where
   pub leaves-set : (el flag t : ℕ) → el < elements S → f due ≡ true → Leaves T S f s (setDue el flag t s)
   unfolding need elementAt inputAt variableAt
   leaves-set el flag t l e =
-      high (elementAt el + 1) (elementAt el + 3) (setDue el flag t s) (omega arith) (omega arith) (due-words s el flag t)
+      high (elementAt el + 1) (elementAt el + 3) (setDue el flag t s) (omega arith) (omega arith) (due-touches s el flag t)
       (λ h k b m n. omega arith) (λ h. clash (sym h ∙ e)) (λ h. inl (omega arith)) (λ h v b w m n. omega arith) (λ h v b w m n. omega arith) (λ h v b m n. omega arith)
 
   pub leaves-input : (i flag birth last : ℕ) → i < inputs S → f input ≡ true → Leaves T S f s (putInput S i flag birth last s)
   unfolding need elementAt inputAt variableAt
   leaves-input i flag birth last l e =
-      high (inputAt S i) (inputAt S i + 3) (putInput S i flag birth last s) (omega arith) (omega arith) (input-words s S i flag birth last)
+      high (inputAt S i) (inputAt S i + 3) (putInput S i flag birth last s) (omega arith) (omega arith) (input-touches s S i flag birth last)
       (λ h k z m n. omega arith) (λ h k p z u v m n. omega arith) (λ h. clash (sym h ∙ e)) (λ h v z w m n. omega arith) (λ h v z w m n. omega arith) (λ h v z m n. omega arith)
 
   -- the value of a variable: one part where it is an input, another where it is not
@@ -146,7 +146,7 @@ module _ (T : List ℕ) (S : Shape) (f : Part → Bool) (s : List ℕ) where
       → Leaves T S f s (putValue S v x s)
   unfolding need elementAt inputAt variableAt
   leaves-value v x l e r =
-      high (variableAt S v) (variableAt S v + 1) (putValue S v x s) (omega arith) (omega arith) (value-word s S v x)
+      high (variableAt S v) (variableAt S v + 1) (putValue S v x s) (omega arith) (omega arith) (value-touches s S v x)
       (λ h k z m n. omega arith) (λ h k p z a b m n. omega arith) (λ h. inr (omega arith))
       (λ h u z w m n. let q : u ≡ v = omega arith in e h (ap (λ (i : ℕ). flagAt T (variableFrame S i)) (sym q) ∙ w))
       (λ h u z w m n. let q : u ≡ v = omega arith in r h (λ y. w (ap (λ (i : ℕ). flagAt T (variableFrame S i)) q ∙ y))) (λ h u z m n. omega arith)

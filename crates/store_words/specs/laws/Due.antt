@@ -17,7 +17,7 @@ use Rattle.rules_tables.specs.Ids.{elements}
 use Rattle.rules_store.specs.declared.NextDue.{NextDue}
 use Rattle.rules_store.specs.Word.{dueFlag, dueTime, setDue, nextDue, putNext}
 use Rattle.rules_store.specs.Layout.{elementAt}
-use Rattle.rules_store.specs.laws.Part.{same-next, due-words}
+use Rattle.rules_store.specs.laws.Part.{same-next, due-touches}
 use Rattle.rules_store.specs.Due.{dueAt, dueThen, sooner, earliest, putDue}
 use Rattle.rules_store.specs.Earliest.{Earliest, another, NextKept}
 use Rattle.rules_store.specs.laws.Due.{one-of}
@@ -42,7 +42,7 @@ behind-found s t el n k l h e q = record { which = k; below = h; passes = both-i
 -- ---- a next due time that stays need not be written
 set-leaves-next : (s : List ℕ) (el flag t : ℕ) → nextDue (setDue el flag t s) ≡ nextDue s
 unfolding elementAt
-set-leaves-next s el flag t = let o = due-words s el flag t in same-next s (setDue el flag t s) (o .apart 9 (λ m n. omega arith)) (o .apart 10 (λ m n. omega arith))
+set-leaves-next s el flag t = let o = due-touches s el flag t in same-next s (setDue el flag t s) (o .apart 9 (λ m n. omega arith)) (o .apart 10 (λ m n. omega arith))
 
 -- ---- the words of element el are written
 module _ (S : Shape) (s : List ℕ) (k : NextKept S s) (el : ℕ) (l : el < elements S) {a : NextDue} (read : a ≡ nextDue s) where
