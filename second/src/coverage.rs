@@ -242,6 +242,27 @@ pub(crate) fn write_cells(f: &mut Formatter<'_>, cells: impl Iterator<Item = Cel
     Ok(())
 }
 
+/// Has a coverage told by its `cells`: what of them was missed, and all of them
+/// under a title.
+macro_rules! told_by_cells {
+    ($coverage:ty, $title:literal) => {
+        impl $coverage {
+            /// What can be reached and was not.
+            pub fn missed(&self) -> Vec<String> {
+                $crate::coverage::missed(self.cells())
+            }
+        }
+
+        impl std::fmt::Display for $coverage {
+            fn fmt(&self, f: &mut std::fmt::Formatter<'_>) -> std::fmt::Result {
+                write!(f, $title)?;
+                $crate::coverage::write_cells(f, self.cells())
+            }
+        }
+    };
+}
+pub(crate) use told_by_cells;
+
 // ---------------------------------------------------------------- traces
 
 /// What traced runs and readings of traces reached.
@@ -289,11 +310,6 @@ fn count_in<T: PartialEq>(counts: &mut [u64], list: &[T], thing: T) {
 }
 
 impl TraceCoverage {
-    /// What traces and readings can reach and these did not.
-    pub fn missed(&self) -> Vec<String> {
-        missed(self.cells())
-    }
-
     fn cells(&self) -> impl Iterator<Item = Cell> + '_ {
         let kinds = self.kinds.iter().enumerate();
         let kinds = kinds.map(|(kind, &count)| Cell::new("trace kind", &kind.to_string(), count));
@@ -307,12 +323,7 @@ impl TraceCoverage {
     }
 }
 
-impl Display for TraceCoverage {
-    fn fmt(&self, f: &mut Formatter<'_>) -> fmt::Result {
-        write!(f, "traces")?;
-        write_cells(f, self.cells())
-    }
-}
+told_by_cells!(TraceCoverage, "traces");
 
 // ---------------------------------------------------------------- untrue steps
 
@@ -368,12 +379,7 @@ impl Watch for ResultCoverage {
 }
 
 impl ResultCoverage {
-    /// The results that steps can have and these did not.
-    pub fn missed(&self) -> Vec<String> {
-        missed(self.cells())
-    }
-
-    /// The same of sessions, whose operands come as they are drawn.
+    /// What sessions missed, whose operands come as they are drawn.
     pub fn missed_by_sessions(&self) -> Vec<String> {
         let often = |cell: &Cell| !SELDOM.contains(&(cell.row, &cell.label));
         missed(self.cells().filter(often))
@@ -389,12 +395,7 @@ impl ResultCoverage {
     }
 }
 
-impl Display for ResultCoverage {
-    fn fmt(&self, f: &mut Formatter<'_>) -> fmt::Result {
-        write!(f, "results by operation")?;
-        write_cells(f, self.cells())
-    }
-}
+told_by_cells!(ResultCoverage, "results by operation");
 
 /// What calls found in words 9, 10 and 12 to 15 of a store, and what runs left in
 /// word 11.
@@ -441,11 +442,6 @@ impl Watch for StoreCoverage {
 }
 
 impl StoreCoverage {
-    /// What calls can find and leave there and these did not.
-    pub fn missed(&self) -> Vec<String> {
-        missed(self.cells())
-    }
-
     fn cells(&self) -> impl Iterator<Item = Cell> + '_ {
         let rows = ["count of a run", "count of a traced run"];
         let counted = rows.into_iter().zip(self.counted).flat_map(|(row, counts)| {
@@ -461,12 +457,7 @@ impl StoreCoverage {
     }
 }
 
-impl Display for StoreCoverage {
-    fn fmt(&self, f: &mut Formatter<'_>) -> fmt::Result {
-        write!(f, "stores")?;
-        write_cells(f, self.cells())
-    }
-}
+told_by_cells!(StoreCoverage, "stores");
 
 // ---------------------------------------------------------------- calls
 

@@ -1,10 +1,9 @@
 //! What became of the STARTs of delays. Some of it one store tells, the rest
 //! hangs on what happened to the delay before, since the table was loaded.
 
-use crate::coverage::{missed, row, write_cells, Cell};
+use crate::coverage::{missed, row, told_by_cells, Cell};
 use crate::watch::{Cleared, Sight, Watch};
 use std::collections::BTreeMap;
-use std::fmt::{self, Display, Formatter};
 
 /// The STARTs taken, as far as one store tells.
 #[derive(Clone, Default, Debug)]
@@ -45,22 +44,12 @@ impl Watch for StartCoverage {
 }
 
 impl StartCoverage {
-    /// What STARTs can be and these were not.
-    pub fn missed(&self) -> Vec<String> {
-        missed(self.cells())
-    }
-
     pub(crate) fn cells(&self) -> impl Iterator<Item = Cell> + '_ {
         row("START", &TAKEN, &self.taken)
     }
 }
 
-impl Display for StartCoverage {
-    fn fmt(&self, f: &mut Formatter<'_>) -> fmt::Result {
-        write!(f, "delays")?;
-        write_cells(f, self.cells())
-    }
-}
+told_by_cells!(StartCoverage, "delays");
 
 // ---------------------------------------------------------------- histories
 

@@ -91,6 +91,11 @@ pub fn table_of_lines(lines: &[&[u8]]) -> Option<Vec<u8>> {
     Some(table)
 }
 
+/// The bytes of a session's table; `None` if a line of it is malformed.
+pub fn table_of(session: &[u8]) -> Option<Vec<u8>> {
+    table_of_lines(part(&lines_of(session)).0)
+}
+
 /// Bytes as upper-case hexadecimal digits.
 pub fn digits(bytes: &[u8]) -> Vec<u8> {
     let digit = |nibble: u8| b"0123456789ABCDEF"[usize::from(nibble)];

@@ -1,10 +1,9 @@
 //! The next due time of a store: how words 9 and 10 can be wrong, and what
 //! became of it when running.
 
-use crate::coverage::{missed, row, write_cells, Cell};
+use crate::coverage::{row, told_by_cells, Cell};
 use crate::store::{next_due, GREATEST_TIME};
 use crate::watch::{Sight, Watch};
-use std::fmt::{self, Display, Formatter};
 
 // ---------------------------------------------------------------- wrong words
 
@@ -169,11 +168,6 @@ fn place_of_time(next: Option<u32>) -> usize {
 }
 
 impl NextDueCoverage {
-    /// What can become of the next due time and did not.
-    pub fn missed(&self) -> Vec<String> {
-        missed(self.cells())
-    }
-
     pub(crate) fn cells(&self) -> impl Iterator<Item = Cell> + '_ {
         let rows = ROWS.iter().zip(&self.counts);
         rows.flat_map(|(&(name, labels), counts)| row(name, labels, counts))
@@ -185,12 +179,7 @@ impl NextDueCoverage {
     }
 }
 
-impl Display for NextDueCoverage {
-    fn fmt(&self, f: &mut Formatter<'_>) -> fmt::Result {
-        write!(f, "next due time")?;
-        write_cells(f, self.cells())
-    }
-}
+told_by_cells!(NextDueCoverage, "next due time");
 
 // ---------------------------------------------------------------- sessions
 

@@ -10,7 +10,7 @@ use second::gen::requests::requests;
 use second::gen::rng::Rng;
 use second::gen::session;
 use second::host::{reply, reply_watched, Call, Reply, Request};
-use second::lines::{lines_of, part, table_of_lines};
+use second::lines::{lines_of, table_of};
 use second::next_due::NextDueCoverage;
 use second::reader::{Ending, Fault};
 use second::watch::{Sight, Watch};
@@ -174,9 +174,7 @@ fn ending_of(checked: &Checked, line: &[u8]) -> Option<Ending> {
 fn a_faulty_line_has_just_its_fault() {
     let mut made = BTreeSet::new();
     for number in 0..60 {
-        let session = session(8, number);
-        let lines = lines_of(&session);
-        let checked = Checked::of(&table_of_lines(part(&lines).0).unwrap_or_default());
+        let checked = Checked::of(&table_of(&session(8, number)).unwrap_or_default());
         let Some(model) = checked.model() else {
             continue;
         };

@@ -5,14 +5,14 @@
 mod common;
 
 use common::{
-    delays, due_flags, loaded, next_due, record, refused, run_all, start_event, stop_event,
-    worked_table,
+    delays, due_flags, for_each_store, loaded, next_due, record, refused, run_all, start_event,
+    stop_event, worked_table,
 };
 use second::coverage::Coverage;
 use second::gen::requests::requests;
 use second::gen::session;
 use second::host::{reply, Call};
-use second::lines::{self, calls_of_lines, lines_of, part, step_program, table_of_lines, text_of};
+use second::lines::{step_program, text_of};
 use second::next_due::WrongDue;
 use second::store::{lone_fault, need, LoneFault};
 use second::{advance, arrival, check, load, run, Answer, Model};
@@ -293,27 +293,9 @@ impl Looked {
 fn calls_of_generated_sessions_leave_what_looking_finds() {
     let mut looked = Looked::default();
     for number in 0..500 {
-        let session = session(21, number);
-        let lines = lines_of(&session);
-        let (table_lines, call_lines) = part(&lines);
-        let table = table_of_lines(table_lines).unwrap_or_default();
-        let Ok(model) = check(&table) else {
-            continue;
-        };
-        let mut store = vec![0xAAAA_AAAA; need(&model)];
-        assert_eq!(load(&table, &mut store), Answer::default());
-        looked.look(&model, &store);
-        for call in calls_of_lines(call_lines) {
-            let answer = match call {
-                lines::Call::Advance { to } => advance(&table, &mut store, to),
-                lines::Call::Arrival { event, birth, values } => {
-                    arrival(&table, &mut store, event, birth, &values)
-                }
-                lines::Call::Run { budget } => run(&table, &mut store, budget, &mut [0; 4096]),
-            };
-            assert_ne!(answer.refusal, 6);
-            looked.look(&model, &store);
-        }
+        for_each_store(&session(21, number), |table, store, _| {
+            looked.look(&check(table).expect("its load was accepted"), store);
+        });
     }
     looked.is_enough(500);
 }

@@ -3,7 +3,7 @@
 //! shows.
 
 use second::debugger::{show_program, trace_program};
-use second::lines::{lines_of, part, step_program, table_of_lines, text_of};
+use second::lines::{step_program, table_of, text_of};
 use second::{frames_of, steps_of};
 use std::io::{self, Read, Write};
 use std::process::ExitCode;
@@ -46,8 +46,7 @@ fn write_output(output: &[u8]) -> Result<(), String> {
 /// The frames of a view of the table lines, a line of 24 digits each.
 fn view(input: &[u8], which: &str, number: &str) -> Result<Vec<u8>, String> {
     let number: u32 = number.parse().map_err(|_| USAGE.to_string())?;
-    let lines = lines_of(input);
-    let table = table_of_lines(part(&lines).0).ok_or("a table line is malformed")?;
+    let table = table_of(input).ok_or("a table line is malformed")?;
     let view = match which {
         "kind" => frames_of(&table, number),
         "steps" => steps_of(&table, number),

@@ -289,16 +289,14 @@ mod tests {
     use super::super::session;
     use super::*;
     use crate::calls::Checked;
-    use crate::lines::{lines_of, part, table_of_lines};
+    use crate::lines::table_of;
     use crate::store::{loaded, need, read, write};
 
     #[test]
     fn a_start_put_before_a_delay_is_well_formed_and_taken() {
         let mut starts = 0;
         for number in 0..300 {
-            let session = session(13, number);
-            let lines = lines_of(&session);
-            let checked = Checked::of(&table_of_lines(part(&lines).0).unwrap_or_default());
+            let checked = Checked::of(&table_of(&session(13, number)).unwrap_or_default());
             let Some(model) = checked.model() else {
                 continue;
             };

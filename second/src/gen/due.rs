@@ -117,7 +117,7 @@ mod tests {
     use super::super::session;
     use super::*;
     use crate::calls::Checked;
-    use crate::lines::{lines_of, part, table_of_lines};
+    use crate::lines::table_of;
     use crate::store::{loaded, lone_fault, need, read, word, write, LoneFault};
     use crate::watch::{Sight, Watch};
 
@@ -138,9 +138,7 @@ mod tests {
     /// A network of a generated session with a state among due delays, by number.
     fn for_each_put(mut look: impl FnMut(&Checked, &Model, State, u64)) {
         for number in 0..600 {
-            let session = session(14, number);
-            let lines = lines_of(&session);
-            let checked = Checked::of(&table_of_lines(part(&lines).0).unwrap_or_default());
+            let checked = Checked::of(&table_of(&session(14, number)).unwrap_or_default());
             if let Some(model) = checked.model() {
                 let mut state = loaded(model);
                 state.now = 7;

@@ -66,7 +66,7 @@ mod tests {
     use super::super::session;
     use super::*;
     use crate::calls::Checked;
-    use crate::lines::{lines_of, part, table_of_lines};
+    use crate::lines::table_of;
     use crate::machine::{Machine, Move};
     use crate::store::{loaded, need, read, write};
 
@@ -74,9 +74,7 @@ mod tests {
     fn a_block_before_a_step_is_well_formed_and_makes_that_step() {
         let mut blocks = 0;
         for number in 0..300 {
-            let session = session(12, number);
-            let lines = lines_of(&session);
-            let checked = Checked::of(&table_of_lines(part(&lines).0).unwrap_or_default());
+            let checked = Checked::of(&table_of(&session(12, number)).unwrap_or_default());
             let Some(model) = checked.model() else {
                 continue;
             };

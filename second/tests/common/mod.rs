@@ -223,26 +223,36 @@ pub fn record(element: u16, event: u16, times: [u32; 3], values: &[i32]) -> Vec<
     bytes
 }
 
-/// Goes through the calls of a session, as far as it goes; each run is handed
-/// over with the table, the store before it and its budget.
-pub fn for_each_run(session: &[u8], mut look: impl FnMut(&[u8], &[u32], u32)) {
+/// Goes through the calls of a session, as far as it goes: what load left and
+/// what each call left is handed over with the table, and with the call that is
+/// made on it next. Load finds no word of the store 0.
+pub fn for_each_store(session: &[u8], mut look: impl FnMut(&[u8], &[u32], Option<&Call>)) {
     let lines = lines_of(session);
     let (table_lines, call_lines) = part(&lines);
     let table = table_of_lines(table_lines).unwrap_or_default();
-    let mut store = vec![0; STORE_WORDS];
+    let mut store = vec![0xAAAA_AAAA; STORE_WORDS];
     if load(&table, &mut store) != Answer::default() {
         return;
     }
     for call in calls_of_lines(call_lines) {
-        match call {
+        look(&table, &store, Some(&call));
+        let answer = match call {
             Call::Advance { to } => advance(&table, &mut store, to),
             Call::Arrival { event, birth, values } => {
                 arrival(&table, &mut store, event, birth, &values)
             }
-            Call::Run { budget } => {
-                look(&table, &store, budget);
-                run(&table, &mut store, budget, &mut [0; OUTPUT_BYTES])
-            }
+            Call::Run { budget } => run(&table, &mut store, budget, &mut [0; OUTPUT_BYTES]),
         };
+        assert_ne!(answer.refusal, 6);
     }
+    look(&table, &store, None);
+}
+
+/// The same of runs alone, each with the store before it and its budget.
+pub fn for_each_run(session: &[u8], mut look: impl FnMut(&[u8], &[u32], u32)) {
+    for_each_store(session, |table, store, next| {
+        if let Some(Call::Run { budget }) = next {
+            look(table, store, *budget);
+        }
+    });
 }

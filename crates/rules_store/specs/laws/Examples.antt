@@ -141,8 +141,11 @@ unfolding dueOk dueFlag dueTime elementAt flagAt nowOf
 due-ends = refl
 
 -- ---- the next due time: three elements, of which some are due. Each of these stores is 1 for "is due" and the time, element by element
+abbrev zeros : List ℕ
+zeros = replicate 39 0
+
 abbrev dues : ℕ → ℕ → ℕ → ℕ → ℕ → ℕ → List ℕ
-dues f t g u h v = setDue 0 f t (setDue 1 g u (setDue 2 h v (replicate 39 0)))
+dues f t g u h v = setDue 0 f t (setDue 1 g u (setDue 2 h v zeros))
 
 abbrev found : List ℕ → NextDue
 found s = earliest s 3
@@ -154,13 +157,7 @@ unfolding earliest sooner choose dueFlag dueTime setDue elementAt
 looking-finds = refl
 
 -- ---- the writer of due words: first, sooner, later; then the earliest is cleared, one of two at one time, the last
-abbrev kept : List ℕ → NextDue
-kept = nextDue
-
-abbrev zeros : List ℕ
-zeros = replicate 39 0
-
-pub writer-keeps : map kept (
+pub writer-keeps : map nextDue (
     putDue shape 1 1 50 zeros ∷ putDue shape 2 1 20 (putDue shape 1 1 50 zeros) ∷ putDue shape 2 1 70 (putDue shape 1 1 50 zeros) ∷
     putDue shape 2 0 0 (putDue shape 2 1 20 (putDue shape 1 1 50 zeros)) ∷ putDue shape 1 0 0 (putDue shape 2 1 20 (putDue shape 1 1 50 zeros)) ∷
     putDue shape 1 0 0 (putDue shape 2 1 50 (putDue shape 1 1 50 zeros)) ∷ putDue shape 1 0 0 (putDue shape 1 1 50 zeros) ∷ putDue shape 0 1 0 zeros ∷ [])
@@ -177,7 +174,7 @@ unfolding nextOk isNext nextDue putNext earliest sooner choose dueFlag dueTime s
 next-is-asked = refl
 
 -- and where none is due; and of one due at 0
-pub none-is-asked : map (nextOk shape) (zeros ∷ putNext (record { due = 1; time = 0 }) zeros ∷ putNext (record { due = 0; time = 5 }) zeros ∷ putNext (record { due = 1; time = 0 }) (dues 1 0 0 0 0 0) ∷ dues 1 0 0 0 0 0 ∷ [])
+pub none-is-asked : map (nextOk shape) (zeros ∷ putNext (dueThen 0) zeros ∷ putNext (record { due = 0; time = 5 }) zeros ∷ putNext (dueThen 0) (dues 1 0 0 0 0 0) ∷ dues 1 0 0 0 0 0 ∷ [])
     ≡ true ∷ false ∷ false ∷ true ∷ false ∷ []
 unfolding nextOk isNext nextDue putNext earliest sooner choose dueFlag dueTime setDue elementAt
 none-is-asked = refl
