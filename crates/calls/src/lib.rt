@@ -1,4 +1,6 @@
 // Load, advance, arrival and run, and the reader of a trace.
+#![tactic(auto)]
+
 ghost use Rattle.std.specs.Prelude.{◌≡◌, ◌<◌};
 ghost use Rattle.rules_tables.specs.Good.{Good};
 ghost use Rattle.rules_store.specs.Earliest.{NextKept};

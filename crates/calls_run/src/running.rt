@@ -25,7 +25,7 @@ use store_words::word::running;
 use table_index::index::{SIZE, index};
 
 // What a run tells: the moves made, the bytes written, why no more were made, the bytes of its trace, and how many of its steps were untrue.
-#[derive(Drop)]
+#[derive(Clone, Copy)]
 pub struct Ran {
     pub moves: u32,
     pub bytes: usize,
@@ -35,7 +35,7 @@ pub struct Ran {
 }
 
 // How far a run is after one turn of the loop: the places after what is written, in the output and in the trace, and how many untrue steps were made.
-#[derive(Drop)]
+#[derive(Clone, Copy)]
 pub struct Turn {
     pub output: usize,
     pub trace: usize,

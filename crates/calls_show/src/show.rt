@@ -13,14 +13,14 @@ use rules_traces::{CHART_KIND, Entry, STARTED_KIND};
 use store_words::word::{put_chart_state, put_value};
 
 // What a line says: an entry, or nothing where it ends the reading or is not there.
-#[derive(Drop)]
+#[derive(Clone, Copy)]
 pub enum Said {
     Known(Entry),
     Nothing,
 }
 
 // What was read: how many frames, and the line that ended the reading, from 1, or 0.
-#[derive(Drop)]
+#[derive(Clone, Copy)]
 pub struct Read {
     pub shown: usize,
     pub line: usize,

@@ -1,1 +1,2 @@
 // No code: what happens in the worked session, computed.
+#![tactic(auto)]

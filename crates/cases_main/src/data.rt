@@ -3,7 +3,7 @@ ghost use Rattle.std.specs.Prelude.{◌<◌, ◌≡◌, get_or};
 ghost use Rattle.cases_main.specs.Rows.{rows, calls, frames, no_row, no_call, no_frame};
 
 // Kind, flag and the fields a to e.
-#[derive(Drop)]
+#[derive(Clone, Copy)]
 pub struct Frame(pub u8, pub u8, pub u16, pub u16, pub u16, pub u16, pub u16);
 
 // The worked table and its last frame a second time; then the tables of a delay, of two delays, and of one with a negative DT.
@@ -76,7 +76,7 @@ const FRAMES: [Frame; 64] = [
 
 // What is called (0 nothing, 1 load, 2 advance, 3 an arrival with no value, 4 one of event 0 with a value, 5 run, 6 run where word 11 holds the value), its
 // time, birth or budget, and the value, or the event that arrives with none.
-#[derive(Drop)]
+#[derive(Clone, Copy)]
 pub struct Call(pub usize, pub u32, pub u32);
 
 // The calls before a case's own: four on the worked table, fifteen on the delay's, twelve on that of two delays, four on the prompt one's.
@@ -119,14 +119,14 @@ const CALLS: [Call; 35] = [
 ];
 
 // What comes out of a case: the six numbers of an answer (refusal, frame, moves, stop number, bytes, untrue steps), or up to five words, and zeros.
-#[derive(Drop)]
+#[derive(Clone, Copy)]
 pub struct Six(pub u64, pub u64, pub u64, pub u64, pub u64, pub u64);
 
 // What is asked (0 the answer of the case's own call, 1 the record that it wrote, 2 due flag and time of element 1 and the next due time, 3 the untrue steps
 // that it tells and word 11, 4 the result of an operation and whether it is true),
 // the table (0 the worked one, 1 with its last frame twice, 2 the delay's, 3 that of two delays, 4 the prompt one's), the words of the store, the bytes of output, from which to which of
 // CALLS come before; the case's own call, or the operation with its two words; and the six numbers that must come out.
-#[derive(Drop)]
+#[derive(Clone, Copy)]
 pub struct Row(
     pub usize,
     pub usize,

@@ -1,4 +1,6 @@
 // Runs the definition cases (crate `cases`) through the public calls, and says of each whether it comes out right.
+#![tactic(auto)]
+
 ghost use Rattle.std.specs.Prelude.{◌≤◌};
 
 use data::Six;

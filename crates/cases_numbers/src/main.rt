@@ -1,10 +1,12 @@
 // Runs on the code the cases that specs/Cases.antt has for the definitions.
+#![tactic(auto)]
+
 ghost use Rattle.std.specs.Prelude.{◌≡◌, ◌<◌, get_or};
 ghost use Rattle.rules_walks.specs.Pick.{pick};
 ghost use Rattle.cases_numbers.specs.Rows.{rows, none, answers, answered};
 
 // What is asked (0 an operation, 1 a DT's ticks), the operation's number, two words, the age, what must come out, and 1 where that is the true one.
-#[derive(Drop)]
+#[derive(Clone, Copy)]
 pub struct Row(
     pub usize,
     pub usize,
@@ -16,7 +18,7 @@ pub struct Row(
 );
 
 // What comes out: a word, and 1 where it is the true one, else 0.
-#[derive(Drop)]
+#[derive(Clone, Copy)]
 pub struct Told(pub u32, pub u32);
 
 const ROWS: [Row; 26] = [

@@ -1,1 +1,2 @@
 // No code: a well-formed store stays well formed.
+#![tactic(auto)]

@@ -1,1 +1,2 @@
 // No code: what the reader shows of a trace is what the machine held.
+#![tactic(auto)]

@@ -1,4 +1,6 @@
 // The state chart: what moves 2 and 3 look for and leave.
+#![tactic(auto)]
+
 ghost use Rattle.std.specs.Prelude.{◌≡◌, ◌+◌, ◌<◌};
 ghost use Rattle.rules_walks.specs.First.{one};
 ghost use Rattle.rules_tables.specs.Frame.{field_at};

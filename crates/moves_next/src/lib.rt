@@ -1,4 +1,6 @@
 // One move: which comes next, and making it.
+#![tactic(auto)]
+
 ghost use Rattle.std.specs.Prelude.{◌≡◌, ◌+◌, ◌<◌, ◌≤◌, length, leb};
 ghost use Rattle.rules_tables.specs.Good.{Good};
 ghost use Rattle.rules_tables.specs.Ids.{inputs};
@@ -34,7 +36,7 @@ use table_index::index::SIZE;
 use table_parts::Found;
 
 // How far a run is: the place after what was written to the output, and how many untrue steps were made.
-#[derive(Drop)]
+#[derive(Clone, Copy)]
 pub struct Moved {
     pub place: usize,
     pub untrue: u32,

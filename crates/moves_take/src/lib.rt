@@ -1,4 +1,6 @@
 // Taking an event.
+#![tactic(auto)]
+
 ghost use Rattle.std.specs.Prelude.{◌≡◌, true, ◌+◌, ◌<◌, ◌≤◌, length};
 ghost use Rattle.numbers.specs.Bounded.{Bounded};
 ghost use Rattle.rules_tables.specs.Kind.{interface, of_input};

@@ -1,4 +1,6 @@
 // Telling a move: the frames of the trace, from the store before the move.
+#![tactic(auto)]
+
 ghost use Rattle.std.specs.Prelude.{◌≡◌, ◌<◌, eqb, leb, length};
 ghost use Rattle.rules_walks.specs.Choose.{choose};
 ghost use Rattle.rules_tables.specs.Frame.{field_at};

@@ -1,4 +1,6 @@
 // Sets of small numbers as bits, 32 to a word, the lowest first.
+#![tactic(auto)]
+
 ghost use Rattle.std.specs.Prelude.{◌≡◌, ◌/◌, ◌<◌, length};
 ghost use Rattle.numbers_bits.specs.Bit.{bit_at, raised, in_set, added, Clear};
 

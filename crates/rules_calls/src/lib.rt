@@ -1,9 +1,11 @@
 // The rules of the calls: types and definitions in specs/, laws about them in specs/laws/. No code but the answer's own methods.
+#![tactic(auto)]
+
 ghost use Rattle.std.specs.Prelude.{◌≡◌};
 ghost use Rattle.rules_calls.specs.Answer.{number_of, frame_of, moves_of, bytes_of, stop_of, untrue_of};
 
 // What a call answers.
-#[derive(Drop)]
+#[derive(Clone, Copy)]
 pub enum Answer {
     // Document 01's number, and the frame for 2 to 4, else 0.
     Refused(usize, usize),

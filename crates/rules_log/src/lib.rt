@@ -1,1 +1,2 @@
 // What happens in a sequence of calls: definitions only.
+#![tactic(auto)]

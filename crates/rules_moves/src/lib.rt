@@ -1,13 +1,15 @@
 // The rules of the moves: types and definitions in specs/, laws about them in specs/laws/. No code.
+#![tactic(auto)]
+
 // The associations that speak for an event output: those of this flag with this event.
-#[derive(Drop)]
+#[derive(Clone, Copy)]
 pub struct Voice {
     pub flag: usize,
     pub event: usize,
 }
 
 // By what a waiting event is chosen: the last update first, then the priority of its element, then its own.
-#[derive(Drop)]
+#[derive(Clone, Copy)]
 pub struct Key {
     pub last: u32,
     pub priority: usize,
@@ -15,7 +17,7 @@ pub struct Key {
 }
 
 // A transition's guard, the five in the order of document 01. d and e are the variables that it compares; the first has none.
-#[derive(Drop)]
+#[derive(Clone, Copy)]
 pub enum Guard {
     Always,
     Equals(usize, usize),
@@ -24,14 +26,14 @@ pub enum Guard {
     AtMost(usize, usize),
 }
 
-#[derive(Drop)]
+#[derive(Clone, Copy)]
 pub enum Best {
     At(usize, Key),
     Nothing,
 }
 
 // Which of the six moves comes next, and what it found.
-#[derive(Drop)]
+#[derive(Clone, Copy)]
 pub enum Next {
     // Move 1: this event input is taken.
     Take(usize),

@@ -1,5 +1,7 @@
 // The rules of the step program: types and definitions in specs/, laws about them in specs/laws/. No code.
-#[derive(Drop)]
+#![tactic(auto)]
+
+#[derive(Clone, Copy)]
 pub enum Command {
     // A line of any other form.
     Wrong,

@@ -1,5 +1,7 @@
 // The rules of the store: types and definitions in specs/, laws about them in specs/laws/. No code but the running block's own methods.
 // The running block: mode (0 idle, 1 charts, 2 acts), live flag, action, step, and the birth of the current event.
+#![tactic(auto)]
+
 ghost use Rattle.std.specs.Prelude.{◌≡◌, ◌<◌};
 ghost use Rattle.rules_store.specs.Running.{rest as «rest_of», awake as «awake_of», entered as «entered_of», stepped as «stepped_of», charting as «charting_of»};
 
@@ -10,7 +12,7 @@ pub const CHARTS: u32 = 1;
 
 pub const ACTS: u32 = 2;
 
-#[derive(Drop)]
+#[derive(Clone, Copy)]
 pub struct Running {
     pub birth: u32,
     pub mode: u32,
@@ -20,7 +22,7 @@ pub struct Running {
 }
 
 // The next due time: 1 and the earliest due time where something is due, else 0 and 0.
-#[derive(Drop)]
+#[derive(Clone, Copy)]
 pub struct NextDue {
     pub due: u32,
     pub time: u32,

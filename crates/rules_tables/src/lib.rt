@@ -1,6 +1,8 @@
 // The rules of tables: types and definitions in specs/, laws about them in specs/laws/. No code.
+#![tactic(auto)]
+
 // The frame after the last of each kind, of a table that was accepted.
-#[derive(Drop)]
+#[derive(Clone, Copy)]
 pub struct Shape {
     pub elements_end: usize,
     pub inputs_end: usize,
@@ -15,7 +17,7 @@ pub struct Shape {
     pub links_end: usize,
 }
 
-#[derive(Drop)]
+#[derive(Clone, Copy)]
 pub enum Judged {
     Sound(Shape),
     // The number, and the lowest faulty frame.
@@ -23,7 +25,7 @@ pub enum Judged {
 }
 
 // So many frames from a frame on.
-#[derive(Drop)]
+#[derive(Clone, Copy)]
 pub struct Span {
     pub first: usize,
     pub count: usize,

@@ -1,4 +1,6 @@
 // The rules of the trace: types and definitions in specs/, laws about them in specs/laws/. No code.
+#![tactic(auto)]
+
 use rules_calls::Answer;
 
 // The kinds of its frames.
@@ -25,7 +27,7 @@ pub const ACTION_KIND: usize = 9;
 pub const STEP_KIND: usize = 10;
 
 // A frame of the trace: its kind, the block, the id of a variable, an event or a transition, and the new value.
-#[derive(Drop)]
+#[derive(Clone, Copy)]
 pub struct Entry {
     pub kind: usize,
     pub block: usize,
@@ -34,14 +36,14 @@ pub struct Entry {
 }
 
 // What a traced run answers: what a run answers, and the bytes of its trace.
-#[derive(Drop)]
+#[derive(Clone, Copy)]
 pub struct Traced {
     pub answer: Answer,
     pub traced: usize,
 }
 
 // What the reader answers: refused or done, how many frames were read, and the line that ended the reading, from 1, or 0.
-#[derive(Drop)]
+#[derive(Clone, Copy)]
 pub struct Shown {
     pub answer: Answer,
     pub shown: usize,

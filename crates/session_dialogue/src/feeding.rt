@@ -14,7 +14,7 @@ pub const BYTE_ROOM: usize = 12338;
 pub const END_ROOM: usize = 12363;
 
 // The session after a piece of the input, and how many of its bytes were taken.
-#[derive(Drop)]
+#[derive(Clone, Copy)]
 pub struct Fed {
     pub session: Session,
     pub taken: usize,

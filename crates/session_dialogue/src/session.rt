@@ -3,7 +3,7 @@ ghost use Rattle.std.specs.Prelude.{◌≡◌};
 ghost use Rattle.session_dialogue.specs.Standing.{is_stopped};
 
 // What the next line is read as.
-#[derive(Drop)]
+#[derive(Clone, Copy)]
 pub enum Phase {
     // A frame of the table, unless it begins 80 to 83.
     Table,
@@ -15,7 +15,7 @@ pub enum Phase {
     Stopped,
 }
 
-#[derive(Drop)]
+#[derive(Clone, Copy)]
 pub struct Session {
     pub phase: Phase,
     // The bytes of the table so far.

@@ -15,7 +15,7 @@ use rules_tables::Judged;
 use rules_traces::{Shown, Traced};
 use table_check::check;
 
-#[derive(Drop)]
+#[derive(Clone, Copy)]
 pub struct Piece {
     pub traced: Traced,
     // The bytes of its lines, from the start of the text on.
@@ -55,7 +55,7 @@ pub fn trace_piece(
     }
 }
 
-#[derive(Drop)]
+#[derive(Clone, Copy)]
 pub struct SeenPiece {
     pub piece: Piece,
     pub shown: Shown,

@@ -11,7 +11,7 @@ use session_dialogue::session::{Phase, Session};
 use session_dialogue::told::tell_load;
 use session_lines::command::line_command;
 
-#[derive(Drop)]
+#[derive(Clone, Copy)]
 pub enum Asked {
     // A run with this budget.
     Run(u32),

@@ -1,6 +1,8 @@
 // The programs `trace` and `show`: both read a session on standard input as the step program does, and watch for its runs. Before the session takes a line that
 // asks for a run, that run is made on a copy of the store, and what it did is written. What the pieces of a run change and print is proved in `session_trace`, and
 // the session goes on as that of the step program does (`session_dialogue`), with its text thrown away; here bytes are read and text is written.
+#![tactic(auto)]
+
 ghost use Rattle.std.specs.Prelude.{◌≤◌, ◌≡◌, length};
 
 pub mod asked;
@@ -14,7 +16,7 @@ use session_trace::copy::copy_words;
 use session_trace::piece::{goes_on, put_store, show_piece, trace_piece};
 
 // What is wished of a run.
-#[derive(Drop)]
+#[derive(Clone, Copy)]
 pub enum Wish {
     // The lines of its trace, and then an empty line: of every run.
     Trace,
@@ -29,14 +31,14 @@ const OUTPUT: usize = 4096;
 const TRACE: usize = 4800;
 
 // A session, and how many runs are to come up to the last that is wished for, with it; 0 where no more is to be watched.
-#[derive(Drop)]
+#[derive(Clone, Copy)]
 struct Sought {
     session: Session,
     runs: usize,
 }
 
 // What a read brought: so many bytes, and whether they are the last.
-#[derive(Drop)]
+#[derive(Clone, Copy)]
 struct Got {
     bytes: usize,
     last: bool,

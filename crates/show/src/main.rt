@@ -1,6 +1,8 @@
 // The program that shows chart states and values after some frames of the trace of a run: show RUN FRAMES, the runs of the session counted from 1. It reads the
 // session on standard input as the step program does and makes that run on a copy of the store; the store itself then reads the trace that comes of it, and
 // shows (`session_watch`). More frames than there are show the last.
+#![tactic(auto)]
+
 use libc::STDERR_FILENO;
 use session_trace::number::{Number, number_in};
 use session_watch::{Wish, watch_session};

@@ -1,5 +1,7 @@
 // The step program: reads a session on standard input and prints what it answers. What the pieces of the input change and print is proved in `session_dialogue`; here
 // they are read and the text is written, both in large pieces.
+#![tactic(auto)]
+
 ghost use Rattle.std.specs.Prelude.{ℕ, ◌+◌, ◌≤◌, ◌≡◌, true, List, length};
 ghost use Rattle.rules_sessions.specs.Reading.{Reading, after_bytes};
 ghost use Rattle.session_dialogue.specs.Standing.{KeepsUp};
@@ -11,7 +13,7 @@ use session_dialogue::part::rest;
 use session_dialogue::session::Session;
 
 // A session, and whether the text was written where it had to be.
-#[derive(Drop)]
+#[derive(Clone, Copy)]
 struct Taken {
     session: Session,
     ok: bool,

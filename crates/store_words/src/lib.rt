@@ -1,4 +1,6 @@
 // The store's words by name: one reader and one writer each. No other crate knows a place in the store.
+#![tactic(auto)]
+
 pub mod actions;
 pub mod due;
 pub mod shape;

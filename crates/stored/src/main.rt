@@ -2,6 +2,8 @@
 //
 // After a session stands `=`, after its answer too, each with a line end. A session that begins `%` has a store of 38 words, and at `#` the store's live flag
 // becomes 2: so refusals 5 and 6 come about, which no session can bring about by itself. (second/src/bin/stored.rs writes the input.)
+#![tactic(auto)]
+
 ghost use Rattle.std.specs.Prelude.{◌+◌, ◌≤◌, ◌<◌, length};
 
 use libc::{STDIN_FILENO, STDOUT_FILENO};

@@ -1,4 +1,6 @@
 // The check of a table, exact for every byte slice.
+#![tactic(auto)]
+
 ghost use Rattle.std.specs.Prelude.{◌≡◌, true, ◌≤◌, get_or};
 ghost use Rattle.rules_walks.specs.All.{all_to};
 ghost use Rattle.rules_walks.specs.Held.{held_to};

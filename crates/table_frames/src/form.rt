@@ -15,7 +15,7 @@ use crate::tally::wide_count;
 use numbers::bytes::wide;
 
 // As `Form` of the rules says it, in bytes.
-#[derive(Drop)]
+#[derive(Clone, Copy)]
 pub struct Form {
     pub flags: u8,
     // By flag; the last entry is for each flag from 8 on.

@@ -1,5 +1,7 @@
 // Refusal 4: the network rules. Each rule is a pass over the frames of its kind among those that have their form and refer rightly; it tells how many
 // frames keep the rule before the first that does not, and the next pass looks at those alone.
+#![tactic(auto)]
+
 ghost use Rattle.std.specs.Prelude.{◌≡◌, true, ◌<◌, ◌≤◌, length};
 ghost use Rattle.rules_walks.specs.All.{all_to};
 ghost use Rattle.rules_walks.specs.Held.{held_to};

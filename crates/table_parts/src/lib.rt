@@ -1,4 +1,6 @@
 // The parts of an element, and the actions of a state, in table order.
+#![tactic(auto)]
+
 ghost use Rattle.std.specs.Prelude.{◌≡◌, ◌+◌, ◌<◌, ◌≤◌};
 ghost use Rattle.rules_tables.specs.Frame.{frames_of};
 ghost use Rattle.rules_tables.specs.Owned.{belongs as «belongs_at», rank as «rank_of», nth as «nth_of»};
@@ -9,7 +11,7 @@ use table_frames::frame::{field, flag};
 // In place of a flag: whatever flag it has.
 pub const ANY: usize = 256;
 
-#[derive(Drop)]
+#[derive(Clone, Copy)]
 pub enum Found {
     One(usize),
     Missing,

@@ -1,4 +1,6 @@
 // Refusal 3: the references of a frame, one function for each rule.
+#![tactic(auto)]
+
 ghost use Rattle.std.specs.Prelude.{◌≡◌, true, ◌+◌, ◌<◌, ◌≤◌};
 ghost use Rattle.rules_walks.specs.All.{all_to};
 ghost use Rattle.rules_walks.specs.Held.{held_to};
@@ -21,7 +23,7 @@ use table_frames::place::{count, exists, owned, owner, place, sort_is};
 
 // Steps whose results are known to be of one element: those from `first` to before `end`. An action may have the steps of the action
 // before it; these are then not looked at once more.
-#[derive(Drop)]
+#[derive(Clone, Copy)]
 pub struct Run {
     pub element: usize,
     pub first: usize,

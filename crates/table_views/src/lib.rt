@@ -1,4 +1,6 @@
 // Parts of the caller's table.
+#![tactic(auto)]
+
 ghost use Rattle.std.specs.Prelude.{◌≡◌, ◌+◌, ◌≤◌};
 ghost use Rattle.rules_tables.specs.Frame.{frames_of};
 ghost use Rattle.rules_tables.specs.View.{stretch as «stretch_of», IsPart, kind_span, step_span};

@@ -1,4 +1,6 @@
 // The calls for hosts in C (include/xaluudhiga.h): a slice is passed as a pointer and then a length.
+#![tactic(auto)]
+
 ghost use Rattle.std.specs.Prelude.{◌≡◌};
 ghost use Rattle.rules_tables.specs.Judge.{judged};
 ghost use Rattle.rules_tables.specs.View.{kind_span, step_span};
