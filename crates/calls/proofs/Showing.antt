@@ -15,13 +15,13 @@ use Rattle.rules_calls.specs.declared.Answer.TheVariants.{Refused, Done}
 use Rattle.rules_calls.specs.Answer.{refused_of}
 use Rattle.rules_calls.specs.Public.{count_by}
 use Rattle.rules_calls.specs.Refusals.{load_refusal}
-use Rattle.rules_calls.specs.laws.Checked.{faulty, verdict, shape}
-use Rattle.rules_calls.specs.laws.Public.{done_tells}
+use Rattle.rules_calls.proofs.laws.Checked.{faulty, verdict, shape}
+use Rattle.rules_calls.proofs.laws.Public.{done_tells}
 use Rattle.rules_traces.specs.declared.Shown.{Shown}
 use Rattle.rules_traces.specs.Reader.{shown_of, ended_by, shown_after}
 use Rattle.rules_traces.specs.Public.{show_answer, show_count, ShowCall}
 use Rattle.calls_show.specs.declared.show.Read.{Read}
-use Rattle.calls_show.specs.laws.Shown.{shown_none}
+use Rattle.calls_show.proofs.laws.Shown.{shown_none}
 use Rattle.calls.proofs.Turns.{answer_faulty, answer_stop, answer_pass}
 
 -- ---- a count, by the verdict and the refusal

@@ -7,18 +7,18 @@ use Rattle.rules_tables.specs.declared.Shape.{Shape}
 use Rattle.rules_tables.specs.declared.Judged.{Judged}
 use Rattle.rules_tables.specs.declared.Judged.TheVariants.{Sound, Refused as «Faulty»}
 use Rattle.rules_tables.specs.Judge.{judged, shape_of}
-use Rattle.rules_tables.specs.laws.Accepted.{accepted_means}
-use Rattle.rules_traces.specs.laws.Traceable.{traceable}
+use Rattle.rules_tables.proofs.laws.Accepted.{accepted_means}
+use Rattle.rules_traces.proofs.laws.Traceable.{traceable}
 use Rattle.rules_tables.specs.Lawful.{Lawful}
 use Rattle.table_index.specs.Index.{Owners}
-use Rattle.table_index.specs.laws.Owners.{owners}
+use Rattle.table_index.proofs.laws.Owners.{owners}
 use Rattle.rules_store.specs.Word.{now_of}
 use Rattle.rules_calls.specs.declared.Answer.{Answer}
 use Rattle.rules_calls.specs.declared.Answer.TheVariants.{Refused, Ran as «RanTo»}
 use Rattle.rules_calls.specs.Answer.{refused_of}
 use Rattle.rules_calls.specs.Refusals.{store_refusal}
 use Rattle.rules_calls.specs.Run.{after, bytes, untrue_in}
-use Rattle.rules_calls.specs.laws.Checked.{faulty, verdict, shape}
+use Rattle.rules_calls.proofs.laws.Checked.{faulty, verdict, shape}
 use Rattle.rules_traces.specs.Run.{trace}
 use Rattle.rules_traces.specs.Public.{TracedCall}
 use Rattle.rules_traces.specs.Traceable.{Traceable}

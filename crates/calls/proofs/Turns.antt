@@ -9,7 +9,7 @@ use lib.ListN.{length}
 use lib.Seq.{sets}
 use borrow.Author.Tests.{eq-eqb, ne_eqb, lt-ltb, le-ltb, eqb-true}
 use Rattle.rules_walks.specs.Pick.{pick}
-use Rattle.rules_walks.specs.laws.Choose.{choose_true, choose_false}
+use Rattle.rules_walks.proofs.laws.Choose.{choose_true, choose_false}
 use Rattle.rules_tables.specs.declared.Shape.{Shape}
 use Rattle.rules_tables.specs.declared.Judged.{Judged}
 use Rattle.rules_tables.specs.declared.Judged.TheVariants.{Sound, Refused as «Faulty»}
@@ -18,7 +18,7 @@ use Rattle.rules_store.specs.Layout.{need}
 use Rattle.rules_store.specs.Word.{now_of}
 use Rattle.rules_store.specs.Load.{loaded}
 use Rattle.rules_store.specs.Earliest.{NextKept}
-use Rattle.rules_store.specs.laws.PutDue.{formed_keeps}
+use Rattle.rules_store.proofs.laws.PutDue.{formed_keeps}
 use Rattle.calls_run.specs.declared.running.Ran.{Ran}
 use Rattle.rules_calls.specs.Run.{after, bytes}
 use Rattle.rules_calls.specs.Calls.{advanced, arrived, of_source, value_count}
@@ -27,9 +27,9 @@ use Rattle.rules_calls.specs.declared.Answer.TheVariants.{Refused, Done, Ran as 
 use Rattle.rules_calls.specs.Answer.{answer_by, kept_by, refused_of}
 use Rattle.rules_calls.specs.Public.{run_answer, LoadCall, AdvanceCall, ArrivalCall, run_moves, RunCall}
 use Rattle.rules_calls.specs.Refusals.{load_refusal, store_refusal, or_else, time_refusal, advance_refusal, event_refusal, arrival_refusal}
-use Rattle.rules_calls.specs.laws.Checked.{faulty, verdict, shape}
-use Rattle.rules_calls.specs.laws.Public.{load_call, advance_call, arrival_call, run_call}
-use Rattle.laws_calls.specs.laws.Refusals.{store_formed}
+use Rattle.rules_calls.proofs.laws.Checked.{faulty, verdict, shape}
+use Rattle.rules_calls.proofs.laws.Public.{load_call, advance_call, arrival_call, run_call}
+use Rattle.laws_calls.proofs.laws.Refusals.{store_formed}
 use Rattle.calls_run.specs.RunMade.{RunMade}
 
 -- ---- by the verdict and the call's own refusal

@@ -11,11 +11,11 @@ use lib.ListN.{length, length-append}
 use lib.Seq.{sets, length-sets}
 use borrow.Author.Tests.{ltb-true, leb-true, leb-false, lt-ltb, le-leb, lt-leb}
 use Rattle.rules_walks.specs.Pick.{pick, both}
-use Rattle.rules_walks.specs.laws.Pick.{clash, both_intro, test_cases}
+use Rattle.rules_walks.proofs.laws.Pick.{clash, both_intro, test_cases}
 use Rattle.rules_walks.specs.All.{all_to}
-use Rattle.rules_walks.specs.laws.All.{all_none, all_more, all_at}
-use Rattle.rules_walks.specs.laws.Held.{held_is}
-use Rattle.rules_numbers.specs.laws.Sets.{and_then_lem}
+use Rattle.rules_walks.proofs.laws.All.{all_none, all_more, all_at}
+use Rattle.rules_walks.proofs.laws.Held.{held_is}
+use Rattle.rules_numbers.proofs.laws.Sets.{and_then_lem}
 use Rattle.rules_tables.specs.declared.Shape.{Shape}
 use Rattle.rules_store.specs.declared.Running.{Running}
 use Rattle.rules_store.specs.Word.{running_of}
@@ -23,7 +23,7 @@ use Rattle.rules_moves.specs.declared.Next.{Next}
 use Rattle.rules_moves.specs.Next.{next_by, next_of, moves, move, untrue_move, written, written_by, size_by}
 use Rattle.moves_next.specs.Made.{Made}
 use Rattle.rules_calls.specs.Run.{after, bytes, untrue_in, another, room_for, continues, made, stop_after}
-use Rattle.rules_calls.specs.laws.Run.{untrue_fit}
+use Rattle.rules_calls.proofs.laws.Run.{untrue_fit}
 use Rattle.calls_run.specs.RunMade.{asked, RunMade}
 
 pub record Going (T : List ℕ) (S : Shape) (time budget : ℕ) (s₀ out₀ s out : List ℕ) (n at u : ℕ) : Type 0 where

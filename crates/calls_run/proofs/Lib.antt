@@ -1,3 +1,4 @@
+pub mod laws
 mod Tracing
 mod Turns
 mod Going

@@ -10,11 +10,11 @@ use lib.ListN.{length, length-append}
 use lib.Seq.{sets, length-sets}
 use borrow.Author.Tests.{leb-true, lt-ltb, not-false}
 use Rattle.rules_walks.specs.Pick.{pick, both}
-use Rattle.rules_walks.specs.laws.Pick.{clash, both_intro, not_back}
+use Rattle.rules_walks.proofs.laws.Pick.{clash, both_intro, not_back}
 use Rattle.rules_walks.specs.All.{all_to}
-use Rattle.rules_walks.specs.laws.All.{all_none, all_more, all_at}
-use Rattle.rules_walks.specs.laws.Held.{held_is}
-use Rattle.rules_numbers.specs.laws.Sets.{and_then_lem}
+use Rattle.rules_walks.proofs.laws.All.{all_none, all_more, all_at}
+use Rattle.rules_walks.proofs.laws.Held.{held_is}
+use Rattle.rules_numbers.proofs.laws.Sets.{and_then_lem}
 use Rattle.rules_tables.specs.declared.Shape.{Shape}
 use Rattle.rules_store.specs.declared.Running.{Running}
 use Rattle.rules_moves.specs.declared.Next.{Next}
@@ -27,8 +27,8 @@ use Rattle.rules_traces.specs.Run.{trace, trace_room_for, traced_continues, trac
 use Rattle.moves_tell.specs.Before.{numbers_by}
 use Rattle.moves_tell.specs.Telling.{Telling}
 use Rattle.moves_tell.specs.Told.{Told, Room}
-use Rattle.moves_tell.specs.laws.Told.{told_length}
-use Rattle.moves_tell.specs.laws.Sizing.{last_room, all_told}
+use Rattle.moves_tell.proofs.laws.Told.{told_length}
+use Rattle.moves_tell.proofs.laws.Sizing.{last_room, all_told}
 use Rattle.calls_run.specs.RunMade.{asked, asked_traced, asked_by, ToldIf, TracedMade, RanAs}
 use Rattle.calls_run.proofs.Going.{Going, left_room, going_done}
 

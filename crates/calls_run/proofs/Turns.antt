@@ -9,12 +9,12 @@ use lib.Dec.{eqb, ltb}
 use lib.ListN.{get_or}
 use borrow.Author.Tests.{eqb-true, ltb-true}
 use Rattle.rules_walks.specs.Pick.{either}
-use Rattle.rules_walks.specs.laws.Pick.{both_right, either_cases}
-use Rattle.rules_walks.specs.laws.Choose.{choose_true, choose_false}
+use Rattle.rules_walks.proofs.laws.Pick.{both_right, either_cases}
+use Rattle.rules_walks.proofs.laws.Choose.{choose_true, choose_false}
 use Rattle.rules_walks.specs.Count.{count_if}
-use Rattle.rules_walks.specs.laws.Count.{count_same}
+use Rattle.rules_walks.proofs.laws.Count.{count_same}
 use Rattle.rules_walks.specs.First.{Sought, one, missing}
-use Rattle.rules_walks.specs.laws.First.{first_in}
+use Rattle.rules_walks.proofs.laws.First.{first_in}
 use Rattle.rules_tables.specs.Kind.{source, of_output}
 use Rattle.rules_tables.specs.Frame.{flag_at, field_at}
 use Rattle.rules_tables.specs.declared.Shape.{Shape}
@@ -22,27 +22,27 @@ use Rattle.rules_tables.specs.Ids.{first_output, first_association, elements, ou
 use Rattle.rules_tables.specs.Lawful.{Lawful}
 use Rattle.rules_store.specs.Word.{next_due, put_now, put_value}
 use Rattle.rules_store.specs.Part.{time, count, input, buffered, just, also}
-use Rattle.rules_store.specs.laws.Writer.{leaves_now}
-use Rattle.rules_store.specs.laws.PutDue.{put_keeps, leaves_keeps}
+use Rattle.rules_store.proofs.laws.Writer.{leaves_now}
+use Rattle.rules_store.proofs.laws.PutDue.{put_keeps, leaves_keeps}
 use Rattle.rules_store.specs.Due.{due_at, put_due}
 use Rattle.rules_store.specs.Earliest.{NextKept}
 use Rattle.table_parts.specs.declared.Found.{Found}
 use Rattle.table_parts.specs.declared.Found.TheVariants.{One, Missing}
 use Rattle.rules_tables.specs.Owned.{any, belongs, rank, is_nth, nth}
 use Rattle.table_parts.specs.Found.{found_of}
-use Rattle.table_parts.specs.laws.Found.{found_one, found_missing}
+use Rattle.table_parts.proofs.laws.Found.{found_one, found_missing}
 use Rattle.rules_moves.specs.Partner.{output_owner}
-use Rattle.rules_moves.specs.laws.Partner.{own_voice}
+use Rattle.rules_moves.proofs.laws.Partner.{own_voice}
 use Rattle.rules_moves.specs.Carry.{voice, voice_of, speaks}
-use Rattle.moves_fire.specs.laws.Carrying.{speaks_belongs}
+use Rattle.moves_fire.proofs.laws.Carrying.{speaks_belongs}
 use Rattle.table_index.specs.Leads.{Leads}
-use Rattle.table_index.specs.laws.Leads.{leads_same}
+use Rattle.table_index.proofs.laws.Leads.{leads_same}
 use Rattle.table_index.specs.Index.{FollowsEvent}
 use Rattle.rules_moves.specs.Fire.{fire}
 use Rattle.rules_moves.specs.Take.{fire_found}
-use Rattle.rules_moves.specs.laws.Firing.{fire_leaves}
+use Rattle.rules_moves.proofs.laws.Firing.{fire_leaves}
 use Rattle.rules_calls.specs.Calls.{expired, expire, advanced, give, of_source}
-use Rattle.rules_calls.specs.laws.Due.{advanced_idle}
+use Rattle.rules_calls.proofs.laws.Due.{advanced_idle}
 
 module _ (T : List ℕ) (S : Shape) (t el : ℕ) (s s' : List ℕ) where
   pub expire_due : {b : Bool} → b ≡ due_at s t el → b ≡ true → s' ≡ expired T S t el s → s' ≡ expire T S t el s

@@ -1,2 +1,1 @@
 pub mod RunMade
-pub mod laws

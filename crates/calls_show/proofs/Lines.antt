@@ -7,7 +7,7 @@ use native.Mathlib.Omega.{arith}
 use lib.Dec.{eqb}
 use lib.ListN.{length, take, drop, length-take, length-drop, get_or-eq_default}
 use borrow.Author.Tests.{ne_eqb, eqb-true, ltb-true, not-true, not-false}
-use Rattle.rules_walks.specs.laws.Pick.{both3}
+use Rattle.rules_walks.proofs.laws.Pick.{both3}
 use Rattle.rules_sessions.specs.Line.{all_digits, line_ok}
 use Rattle.rules_traces.specs.Reader.{line_at, another_line, ended_at, whole_line}
 

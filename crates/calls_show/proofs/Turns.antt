@@ -7,11 +7,11 @@ use native.Mathlib.Omega.{arith}
 use lib.ListN.{length}
 use borrow.Author.Tests.{eq-eqb, ne_eqb, lt-ltb, le-ltb, not-true, not-false}
 use Rattle.rules_walks.specs.Pick.{pick, both}
-use Rattle.rules_walks.specs.laws.Pick.{both3}
-use Rattle.rules_walks.specs.laws.Choose.{choose_true, choose_false}
-use Rattle.rules_walks.specs.laws.Walk.{up_to_more}
+use Rattle.rules_walks.proofs.laws.Pick.{both3}
+use Rattle.rules_walks.proofs.laws.Choose.{choose_true, choose_false}
+use Rattle.rules_walks.proofs.laws.Walk.{up_to_more}
 use Rattle.rules_walks.specs.All.{all_to}
-use Rattle.rules_walks.specs.laws.Held.{held_stop, held_end}
+use Rattle.rules_walks.proofs.laws.Held.{held_stop, held_end}
 use Rattle.rules_numbers.specs.Bytes.{word_at}
 use Rattle.rules_tables.specs.Frame.{Table, field_at}
 use Rattle.rules_tables.specs.declared.Shape.{Shape}

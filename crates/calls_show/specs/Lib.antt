@@ -1,3 +1,2 @@
 pub mod Charted
 pub mod Said
-pub mod laws

@@ -3,4 +3,3 @@ pub mod Claim
 pub mod Script
 pub mod Step
 pub mod Traced
-pub mod laws

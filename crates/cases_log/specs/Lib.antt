@@ -1,3 +1,2 @@
 pub mod Network
 pub mod Session
-pub mod laws

@@ -3,4 +3,3 @@ pub mod Kept
 pub mod Lawfully
 pub mod Refusals
 pub mod Steps
-pub mod laws

@@ -4,4 +4,3 @@ pub mod Fits
 pub mod Same
 pub mod Shows
 pub mod Wide
-pub mod laws

@@ -5,9 +5,9 @@ use Prim.Native.Nat.{ℕ, ◌+◌, ◌*◌, ◌<◌}
 use native.Mathlib.Omega.{arith}
 use lib.ListN.{length, get_or, set, take, length-take}
 use lib.Seq.{sets, take_all}
-use Rattle.rules_numbers.specs.laws.Sets.{and_then_lem}
+use Rattle.rules_numbers.proofs.laws.Sets.{and_then_lem}
 use Rattle.rules_sessions.specs.Text.{pair, digits, line_of}
-use Rattle.rules_sessions.specs.laws.Text.{digits_length, digits_more}
+use Rattle.rules_sessions.proofs.laws.Text.{digits_length, digits_more}
 
 pub digits_none : (B t : List ℕ) (at : ℕ) → t ≡ sets t at (digits (take 0 B))
 unfolding digits

@@ -11,9 +11,9 @@ use lib.Dec.{leb}
 use lib.ListN.{length, get_or, set, length-append}
 use lib.Seq.{sets}
 use borrow.Author.Tests.{le-leb, lt-leb, leb-true}
-use Rattle.rules_walks.specs.laws.Pick.{both_true, both_false, either_false, clash, tri}
+use Rattle.rules_walks.proofs.laws.Pick.{both_true, both_false, either_false, clash, tri}
 use Rattle.numbers.specs.Bounded.{Bounded}
-use Rattle.rules_numbers.specs.laws.Sets.{and_then_lem}
+use Rattle.rules_numbers.proofs.laws.Sets.{and_then_lem}
 use Rattle.rules_sessions.specs.Line.{is_digit, digit_value, byte_of, bytes_to}
 
 -- an element that is there does not depend on the default

@@ -16,7 +16,7 @@ use Rattle.rules_moves.specs.declared.Guard.{Guard}
 use Rattle.rules_moves.specs.declared.Guard.TheVariants.{Equals, Differs, Below, AtMost}
 use Rattle.rules_moves.specs.Chart.{guard_holds}
 use Rattle.rules_moves.specs.Guard.{guard_of, guard_at, signed_value, holds}
-use Rattle.numbers.specs.laws.Tests.{eq_is, lt_is, le_is}
+use Rattle.numbers.proofs.laws.Tests.{eq_is, lt_is, le_is}
 use Rattle.moves_chart.specs.Narrow.{Narrow}
 
 -- ---- reading a guard, by its number n and the two fields d and e

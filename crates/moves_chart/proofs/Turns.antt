@@ -8,7 +8,7 @@ use lib.Dec.{eqb}
 use borrow.Author.Tests.{eqb-false}
 use Rattle.rules_walks.specs.Pick.{pick}
 use Rattle.rules_walks.specs.First.{Sought, one, missing, first_from}
-use Rattle.rules_walks.specs.laws.First.{first_start, first_skip, first_hit, first_none}
+use Rattle.rules_walks.proofs.laws.First.{first_start, first_skip, first_hit, first_none}
 use Rattle.rules_tables.specs.Frame.{field_at}
 use Rattle.rules_tables.specs.declared.Shape.{Shape}
 use Rattle.rules_tables.specs.Ids.{first_transition, first_action, transitions, actions, transition_frame}
@@ -18,13 +18,13 @@ use Rattle.rules_moves.specs.Chart.{enabled, transition_of}
 use Rattle.table_parts.specs.declared.Found.{Found}
 use Rattle.table_parts.specs.declared.Found.TheVariants.{One, Missing}
 use Rattle.table_parts.specs.Found.{found_of}
-use Rattle.table_parts.specs.laws.Found.{was_one, was_missing}
+use Rattle.table_parts.proofs.laws.Found.{was_one, was_missing}
 use Rattle.table_index.specs.Leads.{Leads, or_end}
 use Rattle.table_index.specs.Index.{Follows}
-use Rattle.table_index.specs.laws.Leads.{leads_first}
-use Rattle.table_index.specs.laws.Owned.{any_owner}
-use Rattle.table_index.specs.laws.Nth.{nth_at, nth_past}
-use Rattle.table_index.specs.laws.Actions.{action_nth, action_more}
+use Rattle.table_index.proofs.laws.Leads.{leads_first}
+use Rattle.table_index.proofs.laws.Owned.{any_owner}
+use Rattle.table_index.proofs.laws.Nth.{nth_at, nth_past}
+use Rattle.table_index.proofs.laws.Actions.{action_nth, action_more}
 
 -- the number of an action that was looked for
 module _ (T : List ℕ) (S : Shape) (q k : ℕ) {w : ℕ} {f : Found} where

@@ -6,7 +6,7 @@ use Prim.Native.Nat.{ℕ, ◌≤◌, ◌<◌}
 use native.Mathlib.Omega.{arith}
 use borrow.Author.Tests.{eq-eqb}
 use lib.Dec.{eqb}
-use Rattle.rules_walks.specs.laws.Choose.{choose_true}
+use Rattle.rules_walks.proofs.laws.Choose.{choose_true}
 use Rattle.rules_walks.specs.First.{one}
 use Rattle.rules_tables.specs.Frame.{field_at}
 use Rattle.rules_tables.specs.declared.Shape.{Shape}
@@ -15,8 +15,8 @@ use Rattle.rules_tables.specs.Owned.{any, belongs, nth}
 use Rattle.rules_store.specs.Word.{value, put_buffer}
 use Rattle.rules_moves.specs.Fire.{mark, connect, copy_if}
 use Rattle.table_index.specs.Leads.{or_end}
-use Rattle.table_index.specs.laws.Nth.{nth_at, nth_past}
-use Rattle.table_index.specs.laws.Owned.{any_owner}
+use Rattle.table_index.proofs.laws.Nth.{nth_at, nth_past}
+use Rattle.table_index.proofs.laws.Owned.{any_owner}
 use Rattle.table_parts.specs.declared.Found.TheVariants.{One, Missing}
 use Rattle.table_parts.specs.Found.{found_of}
 

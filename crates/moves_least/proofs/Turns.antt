@@ -10,7 +10,7 @@ use lib.Dec.{eqb}
 use borrow.Author.Tests.{not-true, not-false}
 use Rattle.rules_walks.specs.Choose.{choose}
 use Rattle.rules_walks.specs.Walk.{up_to}
-use Rattle.rules_walks.specs.laws.Walk.{up_to_more, up_to_end}
+use Rattle.rules_walks.proofs.laws.Walk.{up_to_more, up_to_end}
 use Rattle.rules_tables.specs.declared.Shape.{Shape}
 use Rattle.rules_tables.specs.Ids.{inputs}
 use Rattle.rules_store.specs.Word.{waiting}
@@ -19,7 +19,7 @@ use Rattle.rules_moves.specs.declared.Best.{Best}
 use Rattle.rules_moves.specs.declared.Best.TheVariants.{At, Nothing}
 use Rattle.rules_moves.specs.Least.{key_of, beats, better, look, least}
 use Rattle.table_index.specs.Leads.{Leads}
-use Rattle.table_index.specs.laws.Leads.{leads_walk, leads_start}
+use Rattle.table_index.proofs.laws.Leads.{leads_walk, leads_start}
 use Rattle.moves_least.specs.Waits.{waits_at}
 
 -- ---- the search for the next that waits: one more that does not

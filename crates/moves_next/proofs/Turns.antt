@@ -6,7 +6,7 @@ use native.Mathlib.Omega.{arith}
 use lib.IntN.{pos}
 use lib.ListN.{length}
 use borrow.Author.Tests.{eq-eqb, ne_eqb, lt-ltb, le-ltb}
-use Rattle.rules_walks.specs.laws.Choose.{choose_true, choose_false}
+use Rattle.rules_walks.proofs.laws.Choose.{choose_true, choose_false}
 use Rattle.rules_walks.specs.First.{Sought, one, missing}
 use Rattle.rules_numbers.specs.declared.Outcome.{Outcome}
 use Rattle.rules_numbers.specs.Word.{signed, word}
@@ -24,19 +24,19 @@ use Rattle.rules_store.specs.Word.{current_event, running_of, put_running, value
 use Rattle.table_parts.specs.declared.Found.{Found}
 use Rattle.table_parts.specs.declared.Found.TheVariants.{One, Missing}
 use Rattle.table_parts.specs.Found.{found_of}
-use Rattle.table_parts.specs.laws.Found.{found_one, found_missing}
-use Rattle.store_words.specs.laws.Running.{value_runs, untrue_runs}
+use Rattle.table_parts.proofs.laws.Found.{found_one, found_missing}
+use Rattle.store_words.proofs.laws.Running.{value_runs, untrue_runs}
 use Rattle.table_index.specs.Index.{Owners}
 use Rattle.rules_moves.specs.Carry.{voice, voice_of}
 use Rattle.rules_moves.specs.Fire.{fire}
-use Rattle.rules_moves.specs.laws.Firing.{fire_leaves}
+use Rattle.rules_moves.proofs.laws.Firing.{fire_leaves}
 use Rattle.rules_moves.specs.declared.Key.{Key}
 use Rattle.rules_moves.specs.declared.Best.{Best}
 use Rattle.rules_moves.specs.declared.Best.TheVariants.{At, Nothing as «NoEvent»}
 use Rattle.rules_moves.specs.Least.{least}
 use Rattle.rules_moves.specs.Chart.{transition_of, change, go_idle, element_of, state_of}
 use Rattle.rules_tables.specs.Actions.{action_of, action_number}
-use Rattle.rules_tables.specs.laws.Actions.{action_below, action_few}
+use Rattle.rules_tables.proofs.laws.Actions.{action_below, action_few}
 use Rattle.rules_moves.specs.Take.{fire_found}
 use Rattle.rules_moves.specs.Record.{put_out}
 use Rattle.moves_take.specs.Received.{Sized, Received}
@@ -46,8 +46,8 @@ use Rattle.rules_moves.specs.Act.{step_outcome, result_put, untrue_step, count_u
 use Rattle.rules_moves.specs.Next.{event_next, chart_next, act_next, next_by, move_by, untrue_by, written_by, size_by}
 use Rattle.moves_next.specs.Made.{Made}
 use Rattle.rules_moves.specs.Means.{Stepping, Ending}
-use Rattle.rules_moves.specs.laws.Moving.{untrue_step_few}
-use Rattle.rules_moves.specs.laws.Next.{answer_means}
+use Rattle.rules_moves.proofs.laws.Moving.{untrue_step_few}
+use Rattle.rules_moves.proofs.laws.Next.{answer_means}
 
 -- ---- a step
 -- what its operation tells, by what was read

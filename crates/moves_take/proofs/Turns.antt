@@ -8,42 +8,42 @@ use lib.ListN.{length}
 use lib.Seq.{sets}
 use borrow.Author.Tests.{eq-eqb, ne_eqb}
 use Rattle.rules_walks.specs.Choose.{choose}
-use Rattle.rules_walks.specs.laws.Choose.{choose_true, choose_false}
+use Rattle.rules_walks.proofs.laws.Choose.{choose_true, choose_false}
 use Rattle.rules_walks.specs.Count.{count_if}
-use Rattle.rules_walks.specs.laws.Count.{count_same}
+use Rattle.rules_walks.proofs.laws.Count.{count_same}
 use Rattle.rules_walks.specs.Walk.{up_to}
-use Rattle.rules_walks.specs.laws.Walk.{up_to_end}
+use Rattle.rules_walks.proofs.laws.Walk.{up_to_end}
 use Rattle.rules_walks.specs.First.{Sought, missing}
-use Rattle.rules_walks.specs.laws.First.{first_in}
+use Rattle.rules_walks.proofs.laws.First.{first_in}
 use Rattle.rules_numbers.specs.Word.{signed, ticks_of}
 use Rattle.rules_tables.specs.Kind.{basic, interface, delay, sink, of_input}
 use Rattle.rules_tables.specs.Frame.{flag_at, field_at}
 use Rattle.rules_tables.specs.declared.Shape.{Shape}
 use Rattle.rules_tables.specs.Good.{Good}
-use Rattle.rules_store.specs.laws.Word.{value_sampled}
+use Rattle.rules_store.proofs.laws.Word.{value_sampled}
 use Rattle.rules_tables.specs.Ids.{first_input, first_variable, first_association, elements, inputs, variables, associations, association_frame}
 use Rattle.rules_store.specs.Word.{value, put_value, buffer, due_flag, birth_of, put_input}
 use Rattle.rules_store.specs.Due.{put_due}
 use Rattle.rules_store.specs.Earliest.{NextKept}
-use Rattle.rules_store.specs.laws.PutDue.{input_keeps}
+use Rattle.rules_store.proofs.laws.PutDue.{input_keeps}
 use Rattle.table_parts.specs.declared.Found.{Found}
 use Rattle.table_parts.specs.declared.Found.TheVariants.{One, Missing}
 use Rattle.rules_tables.specs.Owned.{any, belongs, rank, nth, is_nth}
 use Rattle.table_parts.specs.Found.{found_of}
-use Rattle.table_parts.specs.laws.Found.{found_one, found_missing}
+use Rattle.table_parts.proofs.laws.Found.{found_one, found_missing}
 use Rattle.rules_moves.specs.Partner.{input_owner, partner_output, partner_variable}
-use Rattle.rules_moves.specs.laws.Partner.{partner_voice}
+use Rattle.rules_moves.proofs.laws.Partner.{partner_voice}
 use Rattle.rules_moves.specs.Carry.{voice, speaks, voice_of}
-use Rattle.moves_fire.specs.laws.Carrying.{speaks_belongs}
+use Rattle.moves_fire.proofs.laws.Carrying.{speaks_belongs}
 use Rattle.rules_moves.specs.Fire.{fire}
-use Rattle.moves_take.specs.laws.Together.{passed_together}
+use Rattle.moves_take.proofs.laws.Together.{passed_together}
 use Rattle.rules_moves.specs.Take.{sample, samples, sampled, pass_to, pass, passes, fire_found, ticks_in, dt_of, is_start, started, start_stop, wake, settle, settled, fired_by, taken}
 use Rattle.rules_moves.specs.Record.{head, value_of, values, record_of, record_size, put_out}
 use Rattle.moves_take.specs.Received.{Sized, Event, Received}
-use Rattle.rules_moves.specs.laws.Record.{sink_writes, others_write_none}
-use Rattle.rules_moves.specs.laws.Delays.{samples_keep}
-use Rattle.rules_moves.specs.laws.Taking.{fires_nothing}
-use Rattle.moves_take.specs.laws.Sized.{sink_sized, others_sized}
+use Rattle.rules_moves.proofs.laws.Record.{sink_writes, others_write_none}
+use Rattle.rules_moves.proofs.laws.Delays.{samples_keep}
+use Rattle.rules_moves.proofs.laws.Taking.{fires_nothing}
+use Rattle.moves_take.proofs.laws.Sized.{sink_sized, others_sized}
 
 -- what a search among n frames found is one of them
 pub nth_in : (T : List ℕ) (first n g x k j : ℕ) {r : Found} → r ≡ found_of (nth T first n g x k) → r ≡ One j → j < n

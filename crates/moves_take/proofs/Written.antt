@@ -6,14 +6,14 @@ use Prim.Native.Nat.{ℕ, ◌+◌, ◌*◌, ◌<◌, ◌≤◌}
 use native.Mathlib.Omega.{arith}
 use lib.ListN.{length, length-append}
 use lib.Seq.{sets}
-use Rattle.rules_walks.specs.laws.Choose.{choose_true}
+use Rattle.rules_walks.proofs.laws.Choose.{choose_true}
 use Rattle.rules_walks.specs.Count.{count_if}
-use Rattle.rules_walks.specs.laws.Count.{count_hit, count_past}
+use Rattle.rules_walks.proofs.laws.Count.{count_hit, count_past}
 use Rattle.rules_walks.specs.Walk.{up_to}
-use Rattle.rules_walks.specs.laws.Walk.{up_to_next}
-use Rattle.rules_numbers.specs.laws.Sets.{and_then_lem}
+use Rattle.rules_walks.proofs.laws.Walk.{up_to_next}
+use Rattle.rules_numbers.proofs.laws.Sets.{and_then_lem}
 use Rattle.rules_numbers.specs.Bytes.{half_bytes, word_bytes}
-use Rattle.rules_numbers.specs.laws.Bytes.{length_half, length_word}
+use Rattle.rules_numbers.proofs.laws.Bytes.{length_half, length_word}
 use Rattle.rules_tables.specs.Kind.{of_input}
 use Rattle.rules_tables.specs.Frame.{field_at}
 use Rattle.rules_tables.specs.declared.Shape.{Shape}
@@ -21,10 +21,10 @@ use Rattle.rules_tables.specs.Ids.{first_association, associations, association_
 use Rattle.rules_store.specs.Word.{value}
 use Rattle.rules_moves.specs.Carry.{voice, speaks}
 use Rattle.rules_moves.specs.Record.{head, value_of}
-use Rattle.rules_moves.specs.laws.Record.{head_length, values_length}
+use Rattle.rules_moves.proofs.laws.Record.{head_length, values_length}
 use Rattle.rules_tables.specs.Owned.{belongs}
 use Rattle.table_index.specs.Leads.{Leads}
-use Rattle.table_index.specs.laws.Leads.{leads_walk}
+use Rattle.table_index.proofs.laws.Leads.{leads_walk}
 use Rattle.moves_take.proofs.Turns.{value_idle}
 
 -- five writes make the head

@@ -8,7 +8,7 @@ use lib.IntN.{pos}
 use lib.Dec.{eqb}
 use borrow.Author.Tests.{eq-eqb, ne_eqb}
 use Rattle.rules_walks.specs.Choose.{choose}
-use Rattle.rules_walks.specs.laws.Choose.{choose_true, choose_false}
+use Rattle.rules_walks.proofs.laws.Choose.{choose_true, choose_false}
 use Rattle.rules_walks.specs.First.{one, missing}
 use Rattle.rules_numbers.specs.Word.{signed, word}
 use Rattle.rules_numbers.specs.Truth.{outcome}
@@ -20,11 +20,11 @@ use Rattle.rules_tables.specs.Ids.{first_input, first_output, outputs, variables
 use Rattle.rules_tables.specs.Actions.{action_number}
 use Rattle.rules_store.specs.Word.{chart_state, value, running_of}
 use Rattle.rules_tables.specs.Owned.{any, rank, is_nth}
-use Rattle.rules_walks.specs.laws.First.{first_in}
+use Rattle.rules_walks.proofs.laws.First.{first_in}
 use Rattle.table_parts.specs.declared.Found.{Found}
 use Rattle.table_parts.specs.declared.Found.TheVariants.{One, Missing}
 use Rattle.table_parts.specs.Found.{found_of}
-use Rattle.table_parts.specs.laws.Found.{found_one, found_missing}
+use Rattle.table_parts.proofs.laws.Found.{found_one, found_missing}
 use Rattle.rules_moves.specs.Partner.{input_owner, partner_output}
 use Rattle.rules_moves.specs.Chart.{element_of}
 use Rattle.rules_moves.specs.Act.{step_outcome, event_of}

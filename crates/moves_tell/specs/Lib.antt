@@ -2,4 +2,3 @@ pub mod Before
 pub mod Pairs
 pub mod Telling
 pub mod Told
-pub mod laws

@@ -12,7 +12,7 @@ use borrow.Author.Tests.{ltb-true, le-ltb}
 use mir.Syntax.{w32}
 use mir.Val.{SFits, to_z, of_z}
 use mir.Facts.{to_z-of_z, to_z_pos}
-use Rattle.rules_walks.specs.laws.Pick.{clash}
+use Rattle.rules_walks.proofs.laws.Pick.{clash}
 use Rattle.rules_numbers.specs.Word.{signed, word}
 
 minus_one : (n : ℕ) → negsuc 0 -ℤ pos n ≡ negsuc n

@@ -1,3 +1,4 @@
+pub mod laws
 pub mod Signs
 pub mod Quotient
 pub mod Halves

@@ -15,12 +15,12 @@ use mir.Syntax.{w32, w64}
 use mir.Val.{SFits, to_z, of_z}
 use mir.Facts.{to_z-of_z, sfits_widen}
 use Rattle.rules_walks.specs.Choose.{choose}
-use Rattle.rules_walks.specs.laws.Choose.{choose_true, choose_false}
-use Rattle.rules_walks.specs.laws.Pick.{clash}
+use Rattle.rules_walks.proofs.laws.Choose.{choose_true, choose_false}
+use Rattle.rules_walks.proofs.laws.Pick.{clash}
 use Rattle.rules_numbers.specs.Clip.{lowest, highest, clip}
 use Rattle.rules_numbers.specs.Truth.{undefined, telling, itself, clipped}
-use Rattle.rules_numbers.specs.laws.Nearest.{clip_pos, clip_negsuc}
-use Rattle.numbers.specs.laws.Tests.{lt_is}
+use Rattle.rules_numbers.proofs.laws.Nearest.{clip_pos, clip_negsuc}
+use Rattle.numbers.proofs.laws.Tests.{lt_is}
 
 -- ---- magnitudes: `mag` of a result from those of its operands
 neg_mag : (n : ℕ) → mag (neg_ℤ (pos n)) ≤ n

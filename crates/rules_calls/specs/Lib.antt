@@ -5,4 +5,3 @@ pub mod Exports
 pub mod Public
 pub mod Refusals
 pub mod Run
-pub mod laws

@@ -2,4 +2,3 @@ pub mod Log
 pub mod Origin
 pub mod Sequence
 pub mod Timer
-pub mod laws

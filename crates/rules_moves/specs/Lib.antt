@@ -16,4 +16,3 @@ pub mod Record
 pub mod Says
 pub mod Take
 pub mod Untouched
-pub mod laws

@@ -5,4 +5,3 @@ pub mod Nearest
 pub mod Operation
 pub mod Truth
 pub mod Word
-pub mod laws

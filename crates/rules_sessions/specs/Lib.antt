@@ -8,4 +8,3 @@ pub mod RunLines
 pub mod RunText
 pub mod Session
 pub mod Text
-pub mod laws

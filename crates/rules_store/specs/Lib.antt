@@ -10,4 +10,3 @@ pub mod Part
 pub mod Running
 pub mod WellFormed
 pub mod Word
-pub mod laws

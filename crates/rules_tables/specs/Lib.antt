@@ -16,4 +16,3 @@ pub mod Places
 pub mod Reference
 pub mod Shapes
 pub mod View
-pub mod laws

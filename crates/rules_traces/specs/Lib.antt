@@ -6,4 +6,3 @@ pub mod Reader
 pub mod Run
 pub mod Trace
 pub mod Traceable
-pub mod laws

@@ -6,4 +6,3 @@ pub mod Held
 pub mod Pick
 pub mod Tally
 pub mod Walk
-pub mod laws

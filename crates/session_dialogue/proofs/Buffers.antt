@@ -9,7 +9,7 @@ use lib.ListN.{length, take, drop, set, length-append, length-set, length-drop}
 use lib.Seq.{sets, length-sets, sets-eq, length-take-le, take_all, take_at, take-suc-set, take-append-le, set_out}
 use borrow.Author.Tests.{lt-ltb, le-ltb, le-leb, leb-true}
 use lib.Dec.{leb}
-use Rattle.rules_walks.specs.laws.Pick.{tri, same_test}
+use Rattle.rules_walks.proofs.laws.Pick.{tri, same_test}
 use Rattle.session_dialogue.specs.Standing.{one_more, Tabled, Came}
 
 -- at most, or above

@@ -1,3 +1,4 @@
+pub mod laws
 mod Buffers
 mod Telling
 mod Taking

@@ -5,15 +5,15 @@ use Prim.Native.Nat.{ℕ, zero, suc, ◌+◌, ◌≤◌, ◌<◌}
 use native.Mathlib.Omega.{arith}
 use lib.ListN.{length, take, set, get_or, length-set}
 use borrow.Author.Tests.{eq-eqb, ne_eqb}
-use Rattle.rules_walks.specs.laws.Choose.{choose_true, choose_false}
+use Rattle.rules_walks.proofs.laws.Choose.{choose_true, choose_false}
 use Rattle.session_dialogue.specs.declared.session.Session.{Session}
 use Rattle.rules_sessions.specs.Session.{Stage, and_then, line_deed, end_deed}
 use Rattle.rules_sessions.specs.Reading.{Reading, line_ended, after_byte, after_bytes, last_deed, closed}
-use Rattle.rules_sessions.specs.laws.Session.{after_next, first_characters}
+use Rattle.rules_sessions.proofs.laws.Session.{after_next, first_characters}
 use Rattle.session_dialogue.specs.Standing.{one_more, Stands, Took, Follows}
 use Rattle.session_dialogue.proofs.Buffers.{character_end, character_held, none_came, some_came, text_grows}
 use Rattle.session_dialogue.proofs.Telling.{took_is, took_then}
-use Rattle.session_dialogue.specs.laws.Whole.{stands_same}
+use Rattle.session_dialogue.proofs.laws.Whole.{stands_same}
 
 after_line : (rd : Reading) (b : ℕ) → b ≡ 10 → after_byte rd b ≡ line_ended rd (line_deed rd.stage rd.line)
 unfolding after_byte

@@ -8,18 +8,18 @@ use native.Mathlib.Omega.{arith}
 use lib.ListN.{length, take, length-append, length-take}
 use lib.Seq.{sets}
 use borrow.Author.Tests.{eq-eqb, ne_eqb}
-use Rattle.rules_walks.specs.laws.Choose.{choose_true, choose_false}
-use Rattle.rules_walks.specs.laws.Pick.{clash}
-use Rattle.rules_numbers.specs.laws.Sets.{and_then_lem}
+use Rattle.rules_walks.proofs.laws.Choose.{choose_true, choose_false}
+use Rattle.rules_walks.proofs.laws.Pick.{clash}
+use Rattle.rules_numbers.proofs.laws.Sets.{and_then_lem}
 use Rattle.rules_numbers.specs.Bytes.{half_bytes, word_bytes}
 use Rattle.rules_tables.specs.Judge.{judged}
 use Rattle.rules_calls.specs.declared.Answer.{Answer}
 use Rattle.rules_calls.specs.declared.Answer.TheVariants.{Refused, Done, Ran}
 use Rattle.rules_calls.specs.Answer.{number_of, frame_of, moves_of, stop_of, bytes_of}
 use Rattle.rules_calls.specs.Public.{load_answer, load_store, advance_answer, advance_store, arrival_answer, arrival_store, run_store, LoadCall, AdvanceCall, ArrivalCall, RunCall}
-use Rattle.rules_calls.specs.laws.Public.{run_store_lem, run_output_lem}
+use Rattle.rules_calls.proofs.laws.Public.{run_store_lem, run_output_lem}
 use Rattle.rules_sessions.specs.Line.{line_ok, line_frame, opens}
-use Rattle.rules_sessions.specs.laws.Text.{line_length}
+use Rattle.rules_sessions.proofs.laws.Text.{line_length}
 use Rattle.rules_sessions.specs.AnswerLine.{answer_frame, answer_line, malformed_line}
 use Rattle.rules_sessions.specs.RecordLines.{records_by}
 use Rattle.rules_sessions.specs.declared.Command.{Command}
@@ -31,7 +31,7 @@ use Rattle.rules_sessions.specs.RunText.{run_text}
 use Rattle.rules_sessions.specs.Session.{Stage, tabled, calling, awaiting, halted, Deed, silent, and_then, malformed, after_load, load_deed, advance_deed, arrival_deed, cleared, run_deed, arrival_by, call_by, value_by, frame_deed, judged_line, line_deed}
 use Rattle.session_dialogue.specs.Standing.{phase_after, is_stopped, Tabled, Came, InTable, InCalls, Stands, Took, Calm}
 use Rattle.lines.specs.Printed.{Printed}
-use Rattle.rules_sessions.specs.laws.Session.{many_lines}
+use Rattle.rules_sessions.proofs.laws.Session.{many_lines}
 use Rattle.session_dialogue.proofs.Buffers.{table_cases}
 
 -- an answer's line has 24 digits and its end

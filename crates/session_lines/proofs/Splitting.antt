@@ -6,20 +6,20 @@ use native.Mathlib.Omega.{arith}
 use lib.ListN.{length, take, drop, length-append, length-drop}
 use lib.Seq.{sets, length-take-le}
 use borrow.Author.Tests.{le-leb, lt-leb}
-use Rattle.rules_walks.specs.laws.Choose.{choose_true, choose_false}
+use Rattle.rules_walks.proofs.laws.Choose.{choose_true, choose_false}
 use Rattle.rules_numbers.specs.Bytes.{half_at}
-use Rattle.rules_numbers.specs.laws.Sets.{and_then_lem}
+use Rattle.rules_numbers.proofs.laws.Sets.{and_then_lem}
 use Rattle.rules_tables.specs.declared.Shape.{Shape}
 use Rattle.rules_tables.specs.declared.Judged.{Judged}
 use Rattle.rules_tables.specs.declared.Judged.TheVariants.{Sound, Refused}
 use Rattle.rules_tables.specs.Judge.{judged}
-use Rattle.rules_tables.specs.laws.Judge.{was_sound}
-use Rattle.rules_tables.specs.laws.Accepted.{accepted_means}
+use Rattle.rules_tables.proofs.laws.Judge.{was_sound}
+use Rattle.rules_tables.proofs.laws.Accepted.{accepted_means}
 use Rattle.rules_tables.specs.Good.{Good}
-use Rattle.rules_tables.specs.laws.Good.{good}
+use Rattle.rules_tables.proofs.laws.Good.{good}
 use Rattle.rules_moves.specs.Record.{record_size}
 use Rattle.rules_sessions.specs.Text.{line_of}
-use Rattle.rules_sessions.specs.laws.Text.{line_length}
+use Rattle.rules_sessions.proofs.laws.Text.{line_length}
 use Rattle.rules_sessions.specs.RecordLines.{record_lines, records_by}
 
 module _ (size : ℕ → ℕ) (B : List ℕ) where

@@ -9,9 +9,9 @@ use native.Mathlib.Omega.{arith}
 use lib.Dec.{leb}
 use lib.ListN.{length, get_or}
 use borrow.Author.Tests.{eq-eqb, ne_eqb, lt-ltb, le-ltb, leb-true}
-use Rattle.rules_walks.specs.laws.Pick.{both_left, both_right}
+use Rattle.rules_walks.proofs.laws.Pick.{both_left, both_right}
 use Rattle.rules_walks.specs.All.{all_to}
-use Rattle.rules_walks.specs.laws.All.{all_none, all_more, all_stop}
+use Rattle.rules_walks.proofs.laws.All.{all_none, all_more, all_stop}
 use Rattle.session_trace.specs.declared.number.Number.{Number}
 use Rattle.session_trace.specs.declared.number.Number.TheVariants.{Is, Wrong}
 use Rattle.session_trace.specs.Number.{is_decimal, number_to, decimal_at, number_of}

@@ -12,8 +12,8 @@ use lib.Seq.{sets}
 use borrow.Author.Tests.{lt-ltb, le-ltb}
 use Rattle.io.specs.Digits.{hex_digit_ascii, last_digits, IsDigitCount}
 use Rattle.rules_walks.specs.Choose.{choose}
-use Rattle.rules_walks.specs.laws.Choose.{choose_true, choose_false}
-use Rattle.rules_walks.specs.laws.Pick.{tri}
+use Rattle.rules_walks.proofs.laws.Choose.{choose_true, choose_false}
+use Rattle.rules_walks.proofs.laws.Pick.{tri}
 use Rattle.rules_shows.specs.Words.{decimal_to, decimal, signed, codes}
 use Rattle.lines.specs.Printed.{Printed}
 use Rattle.session_trace.proofs.Printing.{prints_is, prints_then}

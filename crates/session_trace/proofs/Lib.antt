@@ -1,3 +1,4 @@
+pub mod laws
 pub mod Copying
 pub mod Counting
 pub mod Decimal

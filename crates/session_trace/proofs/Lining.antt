@@ -6,9 +6,9 @@ use native.Mathlib.Numerals.{add-one}
 use native.Mathlib.Omega.{arith}
 use lib.ListN.{length, take, drop, length-append, length-drop}
 use lib.Seq.{sets, drop-drop, length-take-le}
-use Rattle.rules_numbers.specs.laws.Sets.{and_then_lem}
+use Rattle.rules_numbers.proofs.laws.Sets.{and_then_lem}
 use Rattle.rules_sessions.specs.Text.{line_of}
-use Rattle.rules_sessions.specs.laws.Text.{line_length}
+use Rattle.rules_sessions.proofs.laws.Text.{line_length}
 use Rattle.rules_shows.specs.Lines.{frame_lines, bytes_lines}
 
 -- frame k of the bytes

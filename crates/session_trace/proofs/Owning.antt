@@ -7,8 +7,8 @@ use native.Mathlib.Numerals.{add-one}
 use native.Mathlib.Omega.{arith}
 use borrow.Author.Tests.{eq-eqb, ne_eqb, lt-ltb, le-ltb}
 use Rattle.rules_walks.specs.Count.{count_if}
-use Rattle.rules_walks.specs.laws.Count.{count_none, count_hit, count_miss, count_le, count_mono}
-use Rattle.rules_walks.specs.laws.Pick.{tri}
+use Rattle.rules_walks.proofs.laws.Count.{count_none, count_hit, count_miss, count_le, count_mono}
+use Rattle.rules_walks.proofs.laws.Pick.{tri}
 use Rattle.rules_tables.specs.Frame.{Table}
 use Rattle.rules_tables.specs.declared.Shape.{Shape}
 use Rattle.rules_tables.specs.Ids.{variables}

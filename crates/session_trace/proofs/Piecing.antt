@@ -7,22 +7,22 @@ use native.Mathlib.Omega.{arith}
 use lib.Dec.{eqb}
 use lib.ListN.{length, take, length-take}
 use lib.Seq.{sets}
-use Rattle.rules_walks.specs.laws.Pick.{by_test, both_left}
-use Rattle.rules_walks.specs.laws.Held.{held, held_is}
+use Rattle.rules_walks.proofs.laws.Pick.{by_test, both_left}
+use Rattle.rules_walks.proofs.laws.Held.{held, held_is}
 use Rattle.rules_tables.specs.Frame.{Table}
 use Rattle.rules_tables.specs.Judge.{Verdict, accepted, refused, judge, shape_of, judged}
 use Rattle.rules_tables.specs.declared.Shape.{Shape}
 use Rattle.rules_tables.specs.declared.Judged.{Judged}
 use Rattle.rules_tables.specs.declared.Judged.TheVariants.{Sound, Refused}
 use Rattle.rules_tables.specs.Good.{Good}
-use Rattle.rules_tables.specs.laws.Good.{good}
-use Rattle.rules_tables.specs.laws.Judge.{was_sound}
-use Rattle.rules_tables.specs.laws.Accepted.{accepted_means}
+use Rattle.rules_tables.proofs.laws.Good.{good}
+use Rattle.rules_tables.proofs.laws.Judge.{was_sound}
+use Rattle.rules_tables.proofs.laws.Accepted.{accepted_means}
 use Rattle.rules_store.specs.Word.{Store, now_of}
 use Rattle.rules_calls.specs.Answer.{moves_of, bytes_of}
 use Rattle.rules_calls.specs.Public.{count_by}
 use Rattle.rules_calls.specs.Run.{bytes, continues, made}
-use Rattle.rules_calls.specs.laws.Run.{bytes_fit}
+use Rattle.rules_calls.proofs.laws.Run.{bytes_fit}
 use Rattle.rules_calls.specs.Refusals.{load_refusal, store_refusal}
 use Rattle.rules_traces.specs.declared.Traced.{Traced}
 use Rattle.rules_traces.specs.declared.Shown.{Shown}

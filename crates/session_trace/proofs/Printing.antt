@@ -6,7 +6,7 @@ use native.Mathlib.Numerals.{add-one}
 use native.Mathlib.Omega.{arith}
 use lib.ListN.{length, get_or, set, take, length-append}
 use lib.Seq.{sets, take-suc, take_all, length-take-le}
-use Rattle.rules_numbers.specs.laws.Sets.{and_then_lem}
+use Rattle.rules_numbers.proofs.laws.Sets.{and_then_lem}
 use Rattle.lines.specs.Printed.{Printed}
 
 -- ---- a word, byte by byte

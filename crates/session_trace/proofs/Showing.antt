@@ -7,8 +7,8 @@ use native.Mathlib.Omega.{arith}
 use lib.Dec.{eqb}
 use lib.ListN.{length}
 use borrow.Author.Tests.{eq-eqb, ne_eqb}
-use Rattle.rules_walks.specs.laws.Choose.{choose_true, choose_false}
-use Rattle.rules_walks.specs.laws.Pick.{clash}
+use Rattle.rules_walks.proofs.laws.Choose.{choose_true, choose_false}
+use Rattle.rules_walks.proofs.laws.Pick.{clash}
 use Rattle.rules_walks.specs.Choose.{choose}
 use Rattle.rules_tables.specs.Frame.{Table, flag_at, field_at}
 use Rattle.rules_tables.specs.declared.Shape.{Shape}

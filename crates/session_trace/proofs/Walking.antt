@@ -8,15 +8,15 @@ use native.Mathlib.Omega.{arith}
 use lib.ListN.{length}
 use lib.Seq.{sets}
 use Rattle.rules_walks.specs.Count.{count_if}
-use Rattle.rules_walks.specs.laws.Count.{count_hit, count_miss}
-use Rattle.rules_walks.specs.laws.Pick.{test_cases}
+use Rattle.rules_walks.proofs.laws.Count.{count_hit, count_miss}
+use Rattle.rules_walks.proofs.laws.Pick.{test_cases}
 use Rattle.rules_tables.specs.Frame.{Table}
 use Rattle.rules_tables.specs.declared.Shape.{Shape}
 use Rattle.rules_tables.specs.Ids.{elements, variables}
 use Rattle.rules_tables.specs.Good.{Good}
 use Rattle.rules_store.specs.Word.{Store}
 use Rattle.rules_traces.specs.Gather.{gather}
-use Rattle.rules_traces.specs.laws.Gather.{gather_none, gather_next}
+use Rattle.rules_traces.proofs.laws.Gather.{gather_none, gather_next}
 use Rattle.rules_shows.specs.Words.{codes, decimal}
 use Rattle.rules_shows.specs.Shown.{variable_text, element_line, element_text, frames_line, shown_text}
 use Rattle.lines.specs.Printed.{Printed}

@@ -1,4 +1,3 @@
 pub mod Number
 pub mod Owned
 pub mod Pieces
-pub mod laws

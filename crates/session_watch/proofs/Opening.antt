@@ -4,8 +4,8 @@ use mathlib.Core.List.{List}
 use mathlib.Core.Bool.{true, false}
 use Prim.Native.Nat.{ℕ, ◌≤◌}
 use lib.ListN.{length}
-use Rattle.rules_walks.specs.laws.Choose.{choose_true, choose_false}
-use Rattle.rules_walks.specs.laws.Pick.{clash}
+use Rattle.rules_walks.proofs.laws.Choose.{choose_true, choose_false}
+use Rattle.rules_walks.proofs.laws.Pick.{clash}
 use Rattle.rules_sessions.specs.Line.{opens}
 use Rattle.rules_sessions.specs.Session.{Stage, tabled, calling, awaiting, halted, load_deed}
 use Rattle.session_dialogue.specs.declared.session.Session.{Session}

@@ -6,7 +6,7 @@ use Prim.Native.Nat.{ℕ, ◌-◌, ◌≤◌}
 use lib.Dec.{eqb, leb}
 use borrow.Author.Tests.{eq-eqb, ne_eqb, leb-true}
 use Rattle.rules_walks.specs.Pick.{both}
-use Rattle.rules_walks.specs.laws.Pick.{both_left}
+use Rattle.rules_walks.proofs.laws.Pick.{both_left}
 use Rattle.rules_walks.specs.Choose.{choose}
 use Rattle.rules_tables.specs.Kind.{basic}
 use Rattle.rules_tables.specs.Frame.{flag_at, field_at}
@@ -18,7 +18,7 @@ use Rattle.table_parts.specs.declared.Found.{Found}
 use Rattle.table_parts.specs.declared.Found.TheVariants.{One, Missing}
 use Rattle.table_parts.specs.Found.{found_of}
 use Rattle.rules_tables.specs.Actions.{action_of}
-use Rattle.table_parts.specs.laws.Found.{was_one, was_missing}
+use Rattle.table_parts.proofs.laws.Found.{was_one, was_missing}
 use Rattle.rules_store.specs.WellFormed.{owner_ok, step_ok}
 use Rattle.rules_store.specs.Load.{initial}
 

@@ -2,4 +2,3 @@ pub mod Form
 pub mod Placed
 pub mod StartsTo
 pub mod Walked
-pub mod laws

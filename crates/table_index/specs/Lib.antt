@@ -3,4 +3,3 @@ pub mod Index
 pub mod Leads
 pub mod Making
 pub mod Pair
-pub mod laws

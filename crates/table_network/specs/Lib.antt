@@ -2,4 +2,3 @@ pub mod Counted
 pub mod Keys
 pub mod Known
 pub mod Windows
-pub mod laws

@@ -6,7 +6,7 @@ use Prim.Native.Nat.{ℕ, ◌<◌}
 use lib.Dec.{eqb}
 use borrow.Author.Tests.{ltb-true}
 use Rattle.rules_walks.specs.Pick.{both}
-use Rattle.rules_walks.specs.laws.Pick.{both_left}
+use Rattle.rules_walks.proofs.laws.Pick.{both_left}
 use Rattle.rules_tables.specs.Kind.{variable}
 use Rattle.rules_tables.specs.Frame.{field_at}
 use Rattle.rules_tables.specs.Place.{count_of, exists, owner_of, flag_of, owned_by}

@@ -7,8 +7,8 @@ use Rattle.rules_calls.specs.declared.Answer.{Answer}
 use Rattle.rules_calls.specs.Answer.{number_of, frame_of}
 use Rattle.rules_calls.specs.Compact.{Compact}
 use Rattle.rules_calls.specs.Public.{run_answered, run_store, run_output, RunCall}
-use Rattle.rules_calls.specs.laws.Public.{run_call}
-use Rattle.rules_calls.specs.laws.Compact.{run_compact}
+use Rattle.rules_calls.proofs.laws.Public.{run_call}
+use Rattle.rules_calls.proofs.laws.Compact.{run_compact}
 use Rattle.rules_traces.specs.declared.Traced.{Traced}
 use Rattle.rules_traces.specs.Public.{TracedCall}
 

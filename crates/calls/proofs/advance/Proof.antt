@@ -2,7 +2,7 @@
 use Rattle.calls.proofs.Tracing.{ready_lawful, ready_owners}
 use borrow.Author.Rules.{rules}
 use Rattle.calls.proofs.advance.Statement.{statement}
-use Rattle.rules_calls.specs.laws.Checked.{ready}
+use Rattle.rules_calls.proofs.laws.Checked.{ready}
 use Rattle.calls.proofs.Turns.{ready_kept, advance_faulty, advance_unready, advance_refused, advance_done}
 use Rattle.calls.proofs.advance.Tie as tie
 

@@ -2,7 +2,7 @@
 use Rattle.calls.proofs.Tracing.{ready_lawful, ready_owners}
 use borrow.Author.Rules.{rules}
 use Rattle.calls.proofs.arrival.Statement.{statement}
-use Rattle.rules_calls.specs.laws.Checked.{ready}
+use Rattle.rules_calls.proofs.laws.Checked.{ready}
 use Rattle.calls.proofs.Turns.{event_known, arrival_faulty, arrival_unready, arrival_refused, arrival_done}
 use mathlib.Core.Path.{sym, ◌∙◌}
 use Rattle.calls.proofs.arrival.Tie as tie

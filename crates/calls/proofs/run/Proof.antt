@@ -1,7 +1,7 @@
 -- `run` meets its contract: the refusals in their order, or what the run left without a trace.
 use mathlib.Core.Path.{refl, sym, ◌∙◌}
-use Rattle.rules_calls.specs.laws.Checked.{ready}
-use Rattle.laws_calls.specs.laws.Refusals.{store_formed}
+use Rattle.rules_calls.proofs.laws.Checked.{ready}
+use Rattle.laws_calls.proofs.laws.Refusals.{store_formed}
 use Rattle.calls.proofs.Turns.{store_now, run_faulty, run_unready, run_done}
 use Rattle.calls.proofs.Tracing.{ready_traceable, ready_owners}
 use borrow.Author.Rules.{rules}

@@ -2,7 +2,7 @@
 use borrow.Author.Rules.{rules}
 use Rattle.calls.proofs.store_refusal.Statement.{statement}
 use Rattle.rules_calls.specs.Refusals.{store_refusal}
-use Rattle.store_words.specs.laws.Small.{small}
+use Rattle.store_words.proofs.laws.Small.{small}
 use borrow.Author.Tests.{lt-ltb, le-ltb}
 use Rattle.calls.proofs.store_refusal.Tie as tie
 

@@ -1,7 +1,7 @@
 -- `answer` meets its contract: each way of asking is answered by the function whose contract cites the definition.
 use mathlib.Core.Path.{◌∙◌, sym}
 use Rattle.cases_numbers.specs.Rows.{answered}
-use Rattle.cases_numbers.specs.laws.Rows.{else_ticks}
+use Rattle.cases_numbers.proofs.laws.Rows.{else_ticks}
 use borrow.Author.Rules.{rules}
 use Rattle.cases_numbers.proofs.answer.Statement.{statement}
 use Rattle.cases_numbers.proofs.answer.Tie as tie

@@ -4,7 +4,7 @@ use mathlib.Core.Path.{ap, ◌∙◌}
 use borrow.Author.Rules.{rules}
 use borrow.Author.Tests.{eq-eqb}
 use Rattle.cases_numbers.specs.declared.Told.{Told}
-use Rattle.cases_numbers.specs.laws.Rows.{young, right, rightly_told}
+use Rattle.cases_numbers.proofs.laws.Rows.{young, right, rightly_told}
 use Rattle.cases_numbers.proofs.main.Statement.{statement}
 use Rattle.cases_numbers.proofs.main.Tie as tie
 

@@ -1,7 +1,7 @@
 -- `change` meets its contract: the state first, then the running block, which the state leaves.
 use borrow.Author.Rules.{rules}
 use Rattle.rules_moves.specs.Chart.{change}
-use Rattle.store_words.specs.laws.Running.{chart_runs}
+use Rattle.store_words.proofs.laws.Running.{chart_runs}
 use Rattle.moves_chart.proofs.change.Statement.{statement}
 use Rattle.moves_chart.proofs.change.Tie as tie
 

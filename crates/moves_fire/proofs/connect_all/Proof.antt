@@ -1,10 +1,10 @@
-use Rattle.store_words.specs.laws.Small.{small}
-use Rattle.moves_fire.specs.laws.Carrying.{connect_idle}
+use Rattle.store_words.proofs.laws.Small.{small}
+use Rattle.moves_fire.proofs.laws.Carrying.{connect_idle}
 use Rattle.moves_fire.proofs.Turns.{connect_take}
-use Rattle.table_index.specs.laws.Leads.{leads_start, leads_more}
+use Rattle.table_index.proofs.laws.Leads.{leads_start, leads_more}
 use Rattle.rules_moves.specs.Fire.{connect}
 use Rattle.rules_tables.specs.Ids.{first_connection, connections}
-use Rattle.rules_walks.specs.laws.Walk.{up_to_end}
+use Rattle.rules_walks.proofs.laws.Walk.{up_to_end}
 use Rattle.rules_tables.specs.Owned.{any, belongs}
 use Rattle.rules_walks.specs.Walk.{up_to}
 use Prim.Native.Nat.{◌≤◌, ◌<◌, ◌-◌}

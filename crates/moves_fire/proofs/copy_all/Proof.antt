@@ -1,13 +1,13 @@
 -- `copy_all` meets its contract. The invariant: the variables carried so far are copied, one by one, which is document 01's copy (`copies_one_by_one`).
-use Rattle.moves_fire.specs.laws.Copies.{copies_one_by_one}
-use Rattle.moves_fire.specs.laws.Carrying.{carried_idle, speaks_belongs}
-use Rattle.table_index.specs.laws.Leads.{leads_start, leads_more}
+use Rattle.moves_fire.proofs.laws.Copies.{copies_one_by_one}
+use Rattle.moves_fire.proofs.laws.Carrying.{carried_idle, speaks_belongs}
+use Rattle.table_index.proofs.laws.Leads.{leads_start, leads_more}
 use Rattle.moves_fire.specs.Carried.{copies_from}
 use Rattle.rules_moves.specs.Carry.{carried_by}
 use Rattle.rules_tables.specs.Ids.{first_association, associations}
 use mathlib.Core.List.{List}
 use Prim.Native.Nat.{ℕ}
-use Rattle.rules_walks.specs.laws.Walk.{up_to_end}
+use Rattle.rules_walks.proofs.laws.Walk.{up_to_end}
 use Rattle.rules_tables.specs.Owned.{belongs}
 use Rattle.rules_walks.specs.Walk.{up_to}
 use Prim.Native.Nat.{◌≤◌, ◌<◌, ◌-◌}

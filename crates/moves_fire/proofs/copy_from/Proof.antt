@@ -1,12 +1,12 @@
-use Rattle.store_words.specs.laws.Small.{small}
-use Rattle.moves_fire.specs.laws.Carrying.{copy_idle}
+use Rattle.store_words.proofs.laws.Small.{small}
+use Rattle.moves_fire.proofs.laws.Carrying.{copy_idle}
 use Rattle.moves_fire.proofs.Turns.{copy_take}
-use Rattle.table_index.specs.laws.Owned.{any_owner}
-use Rattle.table_index.specs.laws.Leads.{leads_start, leads_more}
+use Rattle.table_index.proofs.laws.Owned.{any_owner}
+use Rattle.table_index.proofs.laws.Leads.{leads_start, leads_more}
 use Rattle.rules_moves.specs.Fire.{copy_if}
 use Rattle.rules_tables.specs.Ids.{first_link, links}
 use lib.Dec.{eqb}
-use Rattle.rules_walks.specs.laws.Walk.{up_to_end}
+use Rattle.rules_walks.proofs.laws.Walk.{up_to_end}
 use Rattle.rules_tables.specs.Owned.{any, belongs}
 use Rattle.rules_walks.specs.Walk.{up_to}
 use Prim.Native.Nat.{◌≤◌, ◌<◌, ◌-◌}

@@ -1,5 +1,5 @@
 -- `fire_by` meets its contract: the connections, then the copies by the voice that it is given.
-use Rattle.moves_fire.specs.laws.Carrying.{voice_flag}
+use Rattle.moves_fire.proofs.laws.Carrying.{voice_flag}
 use Rattle.rules_moves.specs.Fire.{fire}
 use borrow.Author.Rules.{rules}
 use Rattle.moves_fire.proofs.fire_by.Statement.{statement}

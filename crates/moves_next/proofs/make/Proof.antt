@@ -1,7 +1,7 @@
 -- `make` meets its contract: by what comes next.
 use mathlib.Core.Path.{refl}
 use native.Mathlib.Omega.{arith}
-use Rattle.rules_moves.specs.laws.Next.{answer_ready, ready_input, ready_transition, ready_step, ready_action}
+use Rattle.rules_moves.proofs.laws.Next.{answer_ready, ready_input, ready_transition, ready_step, ready_action}
 use Rattle.moves_next.proofs.Turns.{untrue_fits, steps_few, end_action, actions_few, room_for, made_take, made_change, made_idle, made_step, made_end, made_back, made_nothing}
 use borrow.Author.Rules.{rules}
 use Rattle.moves_next.proofs.make.Statement.{statement}

@@ -2,7 +2,7 @@
 use borrow.Author.Rules.{rules}
 use Rattle.moves_next.proofs.next_move.Statement.{statement}
 use Rattle.moves_next.proofs.Turns.{next_idle, next_charts, next_acts}
-use Rattle.rules_moves.specs.laws.Next.{answer_ready}
+use Rattle.rules_moves.proofs.laws.Next.{answer_ready}
 use Rattle.moves_next.proofs.next_move.Tie as tie
 
 next-event-requires : tie.Need-next-event-requires

@@ -2,7 +2,7 @@
 use borrow.Author.Rules.{rules}
 use Rattle.moves_next.proofs.size.Statement.{statement}
 use Rattle.moves_next.proofs.Turns.{size_take}
-use Rattle.rules_moves.specs.laws.Next.{ready_input}
+use Rattle.rules_moves.proofs.laws.Next.{ready_input}
 use Rattle.rules_moves.specs.Next.{written_by, size_by}
 use mathlib.Core.Path.{refl}
 use Rattle.moves_next.proofs.size.Tie as tie

@@ -1,7 +1,7 @@
 -- `dt_of` meets its contract: found or not.
 use borrow.Author.Rules.{rules}
 use Rattle.moves_take.proofs.dt_of.Statement.{statement}
-use Rattle.store_words.specs.laws.Small.{small}
+use Rattle.store_words.proofs.laws.Small.{small}
 use Rattle.moves_take.proofs.Turns.{dt_none, dt_one, nth_in}
 use native.Mathlib.Omega.{arith}
 use Rattle.moves_take.proofs.dt_of.Tie as tie

@@ -1,5 +1,5 @@
 use Rattle.moves_take.proofs.Turns.{pass_none, pass_one, partner_in}
-use Rattle.store_words.specs.laws.Small.{small}
+use Rattle.store_words.proofs.laws.Small.{small}
 use mathlib.Core.Path.{refl}
 use native.Mathlib.Omega.{arith}
 use borrow.Author.Rules.{rules}

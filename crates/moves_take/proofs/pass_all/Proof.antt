@@ -1,5 +1,5 @@
 use Rattle.moves_take.proofs.Turns.{passed_end, pass_idle, voiced}
-use Rattle.table_index.specs.laws.Leads.{leads_start, leads_more}
+use Rattle.table_index.proofs.laws.Leads.{leads_start, leads_more}
 use Rattle.rules_moves.specs.Take.{sample, pass}
 use mathlib.Core.List.{List}
 use Prim.Native.Nat.{ℕ}

@@ -1,5 +1,5 @@
 use Rattle.moves_take.proofs.Turns.{passed_on, value_now}
-use Rattle.moves_take.specs.laws.Known.{at_frame}
+use Rattle.moves_take.proofs.laws.Known.{at_frame}
 use native.Mathlib.Omega.{arith}
 use borrow.Author.Rules.{rules}
 use Rattle.moves_take.proofs.pass_on.Statement.{statement}

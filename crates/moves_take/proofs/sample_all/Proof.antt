@@ -1,10 +1,10 @@
 use Rattle.moves_take.proofs.Turns.{sample_take, sample_idle, voiced}
-use Rattle.table_index.specs.laws.Leads.{leads_start, leads_more}
+use Rattle.table_index.proofs.laws.Leads.{leads_start, leads_more}
 use Rattle.rules_moves.specs.Take.{sample}
-use Rattle.moves_take.specs.laws.Known.{at_frame}
-use Rattle.store_words.specs.laws.Small.{small}
+use Rattle.moves_take.proofs.laws.Known.{at_frame}
+use Rattle.store_words.proofs.laws.Small.{small}
 use Rattle.rules_tables.specs.Ids.{first_association, associations}
-use Rattle.rules_walks.specs.laws.Walk.{up_to_end}
+use Rattle.rules_walks.proofs.laws.Walk.{up_to_end}
 use Rattle.rules_tables.specs.Owned.{belongs}
 use Rattle.rules_tables.specs.Kind.{of_input}
 use Rattle.rules_walks.specs.Walk.{up_to}

@@ -2,7 +2,7 @@
 use Prim.Native.Nat.{ℕ}
 use mathlib.Core.Path.{ap}
 use lib.Dec.{leb}
-use Rattle.moves_tell.specs.laws.Sizing.{fits_most}
+use Rattle.moves_tell.proofs.laws.Sizing.{fits_most}
 use borrow.Author.Rules.{rules}
 use Rattle.moves_tell.proofs.fits.Statement.{statement}
 use Rattle.moves_tell.proofs.fits.Tie as tie

@@ -1,8 +1,8 @@
 -- `numbers_size` meets its contract: by what comes next.
 use mathlib.Core.Path.{◌∙◌}
-use Rattle.rules_moves.specs.laws.Next.{ready_transition, ready_action}
-use Rattle.moves_tell.specs.laws.Telling.{is_good, is_ready}
-use Rattle.moves_tell.specs.laws.Most.{take_bytes, change_bytes, idle_bytes, step_bytes, end_bytes, back_bytes, nothing_bytes}
+use Rattle.rules_moves.proofs.laws.Next.{ready_transition, ready_action}
+use Rattle.moves_tell.proofs.laws.Telling.{is_good, is_ready}
+use Rattle.moves_tell.proofs.laws.Most.{take_bytes, change_bytes, idle_bytes, step_bytes, end_bytes, back_bytes, nothing_bytes}
 use borrow.Author.Rules.{rules}
 use Rattle.moves_tell.proofs.numbers_size.Statement.{statement}
 use Rattle.moves_tell.proofs.numbers_size.Tie as tie

@@ -3,7 +3,7 @@ use lib.ListN.{length, get_or}
 use mathlib.Core.Path.{◌≡◌}
 use native.Mathlib.Omega.{arith}
 use Prim.Native.Nat.{ℕ, ◌≤◌, ◌<◌, ◌-◌}
-use Rattle.numbers_bits.specs.laws.Bit.{clear_all, clear_more}
+use Rattle.numbers_bits.proofs.laws.Bit.{clear_all, clear_more}
 use borrow.Author.Rules.{rules}
 use Rattle.numbers_bits.proofs.clear.Statement.{statement}
 use Rattle.numbers_bits.proofs.clear.Tie as tie

@@ -1,5 +1,5 @@
 -- `show_run` is safe and ends: a piece that is followed by another has made moves, so less of the budget is left. The invariant: what is left of the output, and that no more frames were read than are asked for.
-use Rattle.session_trace.specs.laws.Pieces.{goes_moves}
+use Rattle.session_trace.proofs.laws.Pieces.{goes_moves}
 use borrow.Rule.Slice.PartMut.{same_len_mid}
 use borrow.Author.Tests.{not-false}
 use lib.ListN.{length}

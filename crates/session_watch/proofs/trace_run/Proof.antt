@@ -1,5 +1,5 @@
 -- `trace_run` is safe and ends: a piece that is followed by another has made moves, so less of the budget is left. The invariant: the output has what is left of it.
-use Rattle.session_trace.specs.laws.Pieces.{goes_moves}
+use Rattle.session_trace.proofs.laws.Pieces.{goes_moves}
 use borrow.Rule.Slice.PartMut.{same_len_mid}
 use borrow.Author.Tests.{not-false}
 use lib.ListN.{length}

@@ -1,5 +1,5 @@
 -- `make_room` meets its contract: the text is written, or has room.
-use Rattle.session_dialogue.specs.laws.Whole.{written_keeps}
+use Rattle.session_dialogue.proofs.laws.Whole.{written_keeps}
 use native.Mathlib.Omega.{arith}
 use borrow.Author.Rules.{rules}
 use Rattle.step.proofs.make_room.Statement.{statement}

@@ -1,7 +1,7 @@
 -- `take_all` meets its contract. The invariant: the bytes before `from` were taken, and there is room for what the next byte or the end may print.
 use Rattle.rules_sessions.specs.Reading.{Reading, after_bytes}
 use Rattle.session_dialogue.specs.Standing.{KeepsUp}
-use Rattle.session_dialogue.specs.laws.Whole.{none_keeps, fed_keeps, all_keeps}
+use Rattle.session_dialogue.proofs.laws.Whole.{none_keeps, fed_keeps, all_keeps}
 use mathlib.Core.Bool.{Bool, true, false}
 use lib.ListN.{length, take}
 use mathlib.Core.Path.{◌≡◌, refl, sym, ap, ◌∙◌}

@@ -3,7 +3,7 @@ use borrow.Author.Rules.{rules}
 use Rattle.table_check.proofs.check.Statement.{statement}
 use Rattle.rules_tables.specs.Frame.{frames_of}
 use Rattle.rules_tables.specs.Judge.{judge, scan_to, refusal_number, faulty_frame}
-use Rattle.rules_tables.specs.laws.Judge.{numbers, length_few}
+use Rattle.rules_tables.proofs.laws.Judge.{numbers, length_few}
 use mathlib.Core.Path.{refl, sym, ap, ◌∙◌}
 use Rattle.table_check.proofs.check.Tie as tie
 

@@ -1,7 +1,7 @@
 -- Where all frames have their form, the table is in order (`located_none`).
 use borrow.Author.Rules.{rules}
 use Rattle.table_check.proofs.referring_end.Statement.{statement}
-use Rattle.table_frames.specs.laws.Placed.{located_none}
+use Rattle.table_frames.proofs.laws.Placed.{located_none}
 use lib.ListN.{length}
 use mathlib.Core.Path.{◌≡◌, refl}
 use native.Mathlib.Omega.{arith}

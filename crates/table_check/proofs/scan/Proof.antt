@@ -1,11 +1,11 @@
 -- Each pass ends at its first fault; the three ends together are the verdict (the passed-.. laws).
 use borrow.Author.Rules.{rules}
 use Rattle.table_check.proofs.scan.Statement.{statement}
-use Rattle.rules_walks.specs.laws.Held.{held_all, held_means}
+use Rattle.rules_walks.proofs.laws.Held.{held_all, held_means}
 use Rattle.rules_tables.specs.Form.{form_ok}
 use Rattle.rules_tables.specs.Reference.{refers_ok}
 use Rattle.rules_tables.specs.declared.Judged.TheVariants.{Sound}
-use Rattle.rules_tables.specs.laws.Judge.{passed_rules, passed_refers, passed_form, passed_all}
+use Rattle.rules_tables.proofs.laws.Judge.{passed_rules, passed_refers, passed_form, passed_all}
 use mathlib.Core.Path.{ap}
 use Rattle.table_check.proofs.scan.Tie as tie
 

@@ -1,7 +1,7 @@
 -- Where all frames have their form, their starts are the table's (`starts_whole`).
 use borrow.Author.Rules.{rules}
 use Rattle.table_check.proofs.whole_starts.Statement.{statement}
-use Rattle.table_frames.specs.laws.Placed.{starts_whole}
+use Rattle.table_frames.proofs.laws.Placed.{starts_whole}
 use native.Mathlib.Omega.{arith}
 use Rattle.table_check.proofs.whole_starts.Tie as tie
 

@@ -1,5 +1,5 @@
 -- `connections_end` meets its contract by those of the four passes.
-use Rattle.table_network.specs.laws.Known.{known_less}
+use Rattle.table_network.proofs.laws.Known.{known_less}
 use native.Mathlib.Omega.{arith}
 use borrow.Author.Rules.{rules}
 use Rattle.table_network.proofs.connections_end.Statement.{statement}

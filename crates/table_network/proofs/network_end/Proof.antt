@@ -1,5 +1,5 @@
 -- `network_end` meets its contract by that of `rules_end`, with a set of either size.
-use Rattle.table_network.specs.laws.Known.{known}
+use Rattle.table_network.proofs.laws.Known.{known}
 use borrow.Author.Rules.{rules}
 use Rattle.table_network.proofs.network_end.Statement.{statement}
 use Rattle.table_network.proofs.network_end.Tie as tie

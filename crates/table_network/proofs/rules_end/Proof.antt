@@ -1,6 +1,6 @@
 -- `rules_end` meets its contract: the passes, each over what the one before left, are one pass with all rules (`rules_chain`).
-use Rattle.table_network.specs.laws.Known.{known_less}
-use Rattle.table_network.specs.laws.Rules.{rules_chain}
+use Rattle.table_network.proofs.laws.Known.{known_less}
+use Rattle.table_network.proofs.laws.Rules.{rules_chain}
 use native.Mathlib.Omega.{arith}
 use borrow.Author.Rules.{rules}
 use Rattle.table_network.proofs.rules_end.Statement.{statement}

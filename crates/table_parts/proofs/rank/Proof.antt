@@ -2,7 +2,7 @@
 use Rattle.table_parts.proofs.rank.Statement.{statement}
 use Rattle.rules_tables.specs.Owned.{belongs}
 use Rattle.rules_walks.specs.Count.{count_if}
-use Rattle.rules_walks.specs.laws.Count.{count_none, count_hit, count_miss}
+use Rattle.rules_walks.proofs.laws.Count.{count_none, count_hit, count_miss}
 use borrow.Author.Rules.{rules}
 use mathlib.Core.Logic.{⊎_elim}
 use mathlib.Core.Path.{◌≡◌, sym, ap, ◌∙◌}

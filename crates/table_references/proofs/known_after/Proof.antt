@@ -3,7 +3,7 @@ use borrow.Author.Rules.{rules}
 use Rattle.table_references.proofs.known_after.Statement.{statement}
 use Rattle.rules_tables.specs.Kind.{chart_state}
 use Rattle.rules_tables.specs.Place.{owner_of}
-use Rattle.table_references.specs.laws.Known.{known_new, known_more, acts_state, acts_results}
+use Rattle.table_references.proofs.laws.Known.{known_new, known_more, acts_state, acts_results}
 use mathlib.Core.Path.{refl, ap, ◌∙◌}
 use native.Mathlib.Omega.{arith}
 use Rattle.table_references.proofs.known_after.Tie as tie

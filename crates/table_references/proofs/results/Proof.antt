@@ -2,9 +2,9 @@
 use borrow.Author.Rules.{rules}
 use Rattle.table_references.proofs.results.Statement.{statement}
 use Rattle.rules_walks.specs.All.{all_to}
-use Rattle.rules_walks.specs.laws.All.{all_more, all_stop, all_less}
+use Rattle.rules_walks.proofs.laws.All.{all_more, all_stop, all_less}
 use Rattle.rules_tables.specs.Frame.{frames_of}
-use Rattle.rules_tables.specs.laws.Places.{kind_le}
+use Rattle.rules_tables.proofs.laws.Places.{kind_le}
 use Rattle.rules_tables.specs.Reference.{result_of}
 use borrow.Author.Tests.{not-true, not-false}
 use mathlib.Core.Bool.{true}

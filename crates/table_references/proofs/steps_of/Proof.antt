@@ -2,7 +2,7 @@
 use borrow.Author.Rules.{rules}
 use Rattle.table_references.proofs.steps_of.Statement.{statement}
 use Rattle.rules_tables.specs.Reference.{steps_of}
-use Rattle.table_references.specs.laws.Known.{known_results}
+use Rattle.table_references.proofs.laws.Known.{known_results}
 use borrow.Author.Tests.{le-leb, lt-leb, eq-eqb, ne_eqb}
 use Rattle.table_references.proofs.steps_of.Tie as tie
 

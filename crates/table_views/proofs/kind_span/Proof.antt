@@ -1,7 +1,7 @@
 -- The frames of a kind of an accepted table stand in one stretch, which lies in the table; else there is nothing (Views).
 use borrow.Author.Rules.{rules}
 use Rattle.table_views.proofs.kind_span.Statement.{statement}
-use Rattle.table_views.specs.laws.Views.{kind_refused, kind_low, kind_high, few_frames, kind_in}
+use Rattle.table_views.proofs.laws.Views.{kind_refused, kind_low, kind_high, few_frames, kind_in}
 use mathlib.Core.Path.{sym, ◌∙◌}
 use native.Mathlib.Omega.{arith}
 use Rattle.table_views.proofs.kind_span.Tie as tie

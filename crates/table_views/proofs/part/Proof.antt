@@ -1,7 +1,7 @@
 -- The stretch from the first frame of the span to its last: what it holds, and where it lies.
 use borrow.Author.Rules.{rules}
 use Rattle.table_views.proofs.part.Statement.{statement}
-use Rattle.table_views.specs.laws.Views.{part_of}
+use Rattle.table_views.proofs.laws.Views.{part_of}
 use mathlib.Core.Path.{refl}
 use Rattle.table_views.proofs.part.Tie as tie
 

@@ -1,7 +1,7 @@
 -- The actions of an accepted table stand between its transitions and its steps, and the steps of an action all exist (Views).
 use borrow.Author.Rules.{rules}
 use Rattle.table_views.proofs.step_span.Statement.{statement}
-use Rattle.table_views.specs.laws.Views.{step_refused, few_actions, step_none, action_in, step_empty, steps_in, step_some}
+use Rattle.table_views.proofs.laws.Views.{step_refused, few_actions, step_none, action_in, step_empty, steps_in, step_some}
 use mathlib.Core.Path.{sym, ◌∙◌}
 use native.Mathlib.Omega.{arith}
 use Rattle.table_views.proofs.step_span.Tie as tie

@@ -1,6 +1,6 @@
 -- The answer of `advance`, whose number and frame fit one number (Bounds).
 use borrow.Author.Rules.{rules}
-use Rattle.rules_calls.specs.laws.Compact.{advance_compact}
+use Rattle.rules_calls.proofs.laws.Compact.{advance_compact}
 use Rattle.xaluudhiga.proofs.xal_advance.Statement.{statement}
 use Rattle.xaluudhiga.proofs.xal_advance.Tie as tie
 

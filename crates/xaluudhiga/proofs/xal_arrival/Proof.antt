@@ -1,6 +1,6 @@
 -- The answer of `arrival`, whose number and frame fit one number (Bounds).
 use borrow.Author.Rules.{rules}
-use Rattle.rules_calls.specs.laws.Compact.{arrival_compact}
+use Rattle.rules_calls.proofs.laws.Compact.{arrival_compact}
 use Rattle.xaluudhiga.proofs.xal_arrival.Statement.{statement}
 use Rattle.xaluudhiga.proofs.xal_arrival.Tie as tie
 

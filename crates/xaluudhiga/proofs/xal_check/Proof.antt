@@ -3,7 +3,7 @@ use borrow.Author.Rules.{rules}
 use mathlib.Core.Path.{ap, ◌∙◌}
 use Rattle.rules_calls.specs.Answer.{refused_of}
 use Rattle.rules_calls.specs.Exports.{packed}
-use Rattle.rules_calls.specs.laws.Compact.{check_compact}
+use Rattle.rules_calls.proofs.laws.Compact.{check_compact}
 use Rattle.xaluudhiga.proofs.xal_check.Statement.{statement}
 use Rattle.xaluudhiga.proofs.xal_check.Tie as tie
 

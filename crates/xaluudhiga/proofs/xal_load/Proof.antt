@@ -1,6 +1,6 @@
 -- The answer of `load`, whose number and frame fit one number (Bounds).
 use borrow.Author.Rules.{rules}
-use Rattle.rules_calls.specs.laws.Compact.{load_compact}
+use Rattle.rules_calls.proofs.laws.Compact.{load_compact}
 use Rattle.xaluudhiga.proofs.xal_load.Statement.{statement}
 use Rattle.xaluudhiga.proofs.xal_load.Tie as tie
 

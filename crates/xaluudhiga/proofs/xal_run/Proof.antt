@@ -1,6 +1,6 @@
 -- The answer of `run`, whose number and frame fit one number (Bounds), and its counts.
 use borrow.Author.Rules.{rules}
-use Rattle.rules_calls.specs.laws.Compact.{run_compact}
+use Rattle.rules_calls.proofs.laws.Compact.{run_compact}
 use Rattle.xaluudhiga.proofs.xal_run.Statement.{statement}
 use Rattle.xaluudhiga.proofs.xal_run.Tie as tie
 

@@ -1,6 +1,6 @@
 -- The answer of `show`, which is refused as a load is, so that its number and frame fit one number (Compact), and its counts.
-use Rattle.rules_calls.specs.laws.Compact.{load_compact}
-use Rattle.rules_calls.specs.laws.Public.{load_call}
+use Rattle.rules_calls.proofs.laws.Compact.{load_compact}
+use Rattle.rules_calls.proofs.laws.Public.{load_call}
 use mathlib.Core.Path.{refl}
 use borrow.Author.Rules.{rules}
 use Rattle.xaluudhiga.proofs.xal_show.Statement.{statement}

@@ -1,7 +1,7 @@
 -- `show` meets its contract: the table's refusal, 5, or what was shown.
-use Rattle.calls_show.specs.laws.Charted.{ready_charted}
-use Rattle.store_words.specs.laws.Small.{small}
-use Rattle.rules_calls.specs.laws.Checked.{ready}
+use Rattle.calls_show.proofs.laws.Charted.{ready_charted}
+use Rattle.store_words.proofs.laws.Small.{small}
+use Rattle.rules_calls.proofs.laws.Checked.{ready}
 use Rattle.calls.proofs.Showing.{show_faulty, show_short, show_done}
 use borrow.Author.Rules.{rules}
 use Rattle.calls.proofs.show.show.Statement.{statement}

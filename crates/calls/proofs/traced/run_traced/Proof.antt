@@ -1,7 +1,7 @@
 -- `run_traced` meets its contract: the refusals in their order, or what the run left.
 use mathlib.Core.Path.{refl, sym, ◌∙◌}
-use Rattle.rules_calls.specs.laws.Checked.{ready}
-use Rattle.laws_calls.specs.laws.Refusals.{store_formed}
+use Rattle.rules_calls.proofs.laws.Checked.{ready}
+use Rattle.laws_calls.proofs.laws.Refusals.{store_formed}
 use Rattle.calls.proofs.Turns.{store_now}
 use Rattle.calls.proofs.Tracing.{traced_faulty, traced_unready, traced_done, ready_traceable, ready_owners}
 use borrow.Author.Rules.{rules}

@@ -1,6 +1,6 @@
 -- `advance_to` meets its contract: now alone where nothing is due by then, else all of it.
 use Rattle.rules_walks.specs.Choose.{choose}
-use Rattle.rules_walks.specs.laws.Pick.{clash}
+use Rattle.rules_walks.proofs.laws.Pick.{clash}
 use borrow.Author.Rules.{rules}
 use Rattle.calls_run.proofs.Turns.{nothing_due}
 use Rattle.calls_run.proofs.calls.advance_to.Statement.{statement}

@@ -1,6 +1,6 @@
 -- `arrive` meets its contract: that of `come` with the arrival chosen.
 use mathlib.Core.Path.{sym}
-use Rattle.rules_walks.specs.laws.Pick.{clash}
+use Rattle.rules_walks.proofs.laws.Pick.{clash}
 use Rattle.rules_walks.specs.Choose.{choose}
 use borrow.Author.Rules.{rules}
 use Rattle.calls_run.proofs.calls.arrive.Statement.{statement}

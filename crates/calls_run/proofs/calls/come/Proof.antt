@@ -1,6 +1,6 @@
 -- `come` meets its contract: an arrival, or else an advance.
 use mathlib.Core.Path.{sym, ◌∙◌}
-use Rattle.rules_walks.specs.laws.Choose.{choose_true, choose_false}
+use Rattle.rules_walks.proofs.laws.Choose.{choose_true, choose_false}
 use borrow.Author.Rules.{rules}
 use Rattle.calls_run.proofs.calls.come.Statement.{statement}
 use Rattle.calls_run.proofs.calls.come.Tie as tie

@@ -1,7 +1,7 @@
 -- `expire_all` meets its contract. The invariant: the store is what the elements passed made of it.
 use Rattle.calls_run.proofs.calls.expire_all.Statement.{statement}
 use Rattle.rules_walks.specs.Walk.{up_to}
-use Rattle.rules_walks.specs.laws.Walk.{up_to_none, up_to_more, up_to_end}
+use Rattle.rules_walks.proofs.laws.Walk.{up_to_none, up_to_more, up_to_end}
 use Rattle.rules_store.specs.Earliest.{NextKept}
 use Rattle.rules_calls.specs.Calls.{expire}
 use Rattle.calls_run.proofs.Turns.{expire_due, expire_not, expired_kept}

@@ -1,9 +1,9 @@
-use Rattle.table_index.specs.laws.Leads.{leads_start, leads_more, leads_count}
-use Rattle.moves_take.specs.laws.Known.{at_frame}
+use Rattle.table_index.proofs.laws.Leads.{leads_start, leads_more, leads_count}
+use Rattle.moves_take.proofs.laws.Known.{at_frame}
 use Rattle.rules_tables.specs.Kind.{of_output}
-use Rattle.rules_walks.specs.laws.Count.{count_none, count_hit, count_past}
+use Rattle.rules_walks.proofs.laws.Count.{count_none, count_hit, count_past}
 use Rattle.rules_walks.specs.Count.{count_if}
-use Rattle.rules_walks.specs.laws.Walk.{up_to_end}
+use Rattle.rules_walks.proofs.laws.Walk.{up_to_end}
 use Rattle.rules_walks.specs.Walk.{up_to}
 use Rattle.rules_tables.specs.Ids.{associations}
 use Rattle.rules_moves.specs.Carry.{voice, speaks}

@@ -5,7 +5,7 @@ use native.Mathlib.Omega.{arith}
 use borrow.Author.Tests.{lt-ltb, le-ltb}
 use Rattle.rules_calls.specs.Calls.{of_source}
 use Rattle.calls_run.proofs.calls.of_source.Statement.{statement}
-use Rattle.moves_take.specs.laws.Known.{at_frame}
+use Rattle.moves_take.proofs.laws.Known.{at_frame}
 use Rattle.calls_run.proofs.calls.of_source.Tie as tie
 
 outputs-requires : tie.Need-outputs-requires

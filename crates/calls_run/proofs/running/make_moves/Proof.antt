@@ -5,8 +5,8 @@ use Prim.Native.Nat.{◌-◌}
 use mathlib.Core.Path.{◌≡◌, refl, sym, ◌∙◌}
 use mathlib.Core.Logic.{⊎_elim}
 use lib.ListN.{length}
-use Rattle.moves_tell.specs.laws.Sizing.{first_room}
-use Rattle.calls_run.specs.laws.Plenty.{telling}
+use Rattle.moves_tell.proofs.laws.Sizing.{first_room}
+use Rattle.calls_run.proofs.laws.Plenty.{telling}
 use Rattle.calls_run.proofs.Going.{Going, going_start, going_more, comes_next, room_left, budget_left, untrue_left}
 use Rattle.calls_run.proofs.Tracing.{Tracked, tracked_start, tracked_more, run_done, run_goes_on, space_if, told_here, not_told_here, numbers_room, told_both}
 use borrow.Author.Rules.{rules}

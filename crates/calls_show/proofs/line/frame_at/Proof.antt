@@ -1,6 +1,6 @@
 -- `frame_at` meets its contract: a whole line has the form of a frame, which is written over a frame.
 use Rattle.calls_show.proofs.Lines.{whole_long, whole_ok}
-use Rattle.lines.specs.laws.Frame.{frame_whole}
+use Rattle.lines.proofs.laws.Frame.{frame_whole}
 use Rattle.rules_sessions.specs.Line.{line_frame}
 use mathlib.Core.Path.{ap, ◌∙◌}
 use borrow.Author.Rules.{rules}

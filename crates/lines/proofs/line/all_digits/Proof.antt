@@ -1,6 +1,6 @@
 -- `all_digits` meets its contract. The invariant: the characters passed are digits.
 use Rattle.rules_walks.specs.All.{all_to}
-use Rattle.rules_walks.specs.laws.All.{all_none, all_more, all_stop}
+use Rattle.rules_walks.proofs.laws.All.{all_none, all_more, all_stop}
 use Rattle.rules_sessions.specs.Line.{is_digit, all_digits}
 use mathlib.Core.Path.{◌≡◌, sym, ap, ◌∙◌}
 use mathlib.Core.Bool.{true}

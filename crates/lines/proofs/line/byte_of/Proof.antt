@@ -1,6 +1,6 @@
 -- `byte_of` meets its contract: each character of a line of the form is a digit, and so is each zero past its end.
 use Rattle.lines.proofs.Reading.{byte_value}
-use Rattle.rules_sessions.specs.laws.Digits.{all_digits_at}
+use Rattle.rules_sessions.proofs.laws.Digits.{all_digits_at}
 use Rattle.rules_sessions.specs.Line.{is_digit}
 use mathlib.Core.Path.{ap, ◌∙◌}
 use borrow.Author.Rules.{rules}

@@ -1,6 +1,6 @@
 use Rattle.rules_moves.specs.Partner.{partner_variable}
 use Rattle.rules_moves.specs.Carry.{carried_by}
-use Rattle.table_parts.specs.laws.Found.{found_one, found_missing}
+use Rattle.table_parts.proofs.laws.Found.{found_one, found_missing}
 use borrow.Author.Tests.{eq-eqb, ne_eqb}
 use native.Mathlib.Omega.{arith}
 use borrow.Author.Rules.{rules}

@@ -1,7 +1,7 @@
 -- `voice_of` meets its contract by cases: no interface, a partner, none.
 use borrow.Author.Rules.{rules}
 use Rattle.moves_fire.proofs.carry.voice_of.Statement.{statement}
-use Rattle.table_parts.specs.laws.Found.{found_one, found_missing}
+use Rattle.table_parts.proofs.laws.Found.{found_one, found_missing}
 use Rattle.rules_moves.specs.Carry.{voice_of}
 use borrow.Author.Tests.{eq-eqb, ne_eqb}
 use native.Mathlib.Omega.{arith}

@@ -2,7 +2,7 @@
 use mathlib.Core.Path.{sym}
 use Rattle.rules_store.specs.Word.{counted}
 use Rattle.rules_moves.specs.Act.{count_untrue}
-use Rattle.store_words.specs.laws.Running.{untrue_stays}
+use Rattle.store_words.proofs.laws.Running.{untrue_stays}
 use borrow.Author.Rules.{rules}
 use Rattle.moves_next.proofs.act.count_untrue.Statement.{statement}
 use Rattle.moves_next.proofs.act.count_untrue.Tie as tie

@@ -3,7 +3,7 @@ use borrow.Author.Rules.{rules}
 use Rattle.moves_next.proofs.Turns.{event_fired, event_none, event_own}
 use mathlib.Core.List.{[]}
 use mathlib.Core.Path.{refl}
-use Rattle.moves_take.specs.laws.Known.{at_frame}
+use Rattle.moves_take.proofs.laws.Known.{at_frame}
 use Rattle.moves_next.proofs.act.fire_event.Statement.{statement}
 use Rattle.moves_next.proofs.act.fire_event.Tie as tie
 

@@ -1,15 +1,15 @@
 use Rattle.moves_take.proofs.Turns.{sample_take, sample_idle, voiced}
-use Rattle.table_index.specs.laws.Leads.{leads_start, leads_more}
-use Rattle.moves_take.specs.laws.Together.{sampled_value}
+use Rattle.table_index.proofs.laws.Leads.{leads_start, leads_more}
+use Rattle.moves_take.proofs.laws.Together.{sampled_value}
 use Rattle.moves_take.proofs.Written.{place_first, written_first, value_written, value_place, value_fits, values_end}
 use Rattle.rules_moves.specs.Record.{value_of, values}
 use Rattle.rules_moves.specs.Take.{sample, samples}
 use lib.Seq.{sets}
 use mathlib.Core.List.{[]}
-use Rattle.moves_take.specs.laws.Known.{at_frame}
-use Rattle.store_words.specs.laws.Small.{small}
+use Rattle.moves_take.proofs.laws.Known.{at_frame}
+use Rattle.store_words.proofs.laws.Small.{small}
 use Rattle.rules_tables.specs.Ids.{first_association, associations}
-use Rattle.rules_walks.specs.laws.Walk.{up_to_end}
+use Rattle.rules_walks.proofs.laws.Walk.{up_to_end}
 use Rattle.rules_tables.specs.Owned.{belongs}
 use Rattle.rules_tables.specs.Kind.{of_input}
 use Rattle.rules_walks.specs.Walk.{up_to}

@@ -1,7 +1,7 @@
 -- `written_size` meets its contract: a sink or not (`sized_sink`, `sized_other`).
 use borrow.Author.Rules.{rules}
 use Rattle.moves_take.proofs.record.written_size.Statement.{statement}
-use Rattle.moves_take.specs.laws.Known.{at_frame, owner_in}
+use Rattle.moves_take.proofs.laws.Known.{at_frame, owner_in}
 use Rattle.moves_take.proofs.Turns.{sized_sink, sized_other}
 use Rattle.moves_take.proofs.record.written_size.Tie as tie
 

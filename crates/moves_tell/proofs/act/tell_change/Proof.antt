@@ -1,7 +1,7 @@
 -- `tell_change` meets its contract: the chart state, then the transition.
 use native.Mathlib.Omega.{arith}
 use mathlib.Core.Path.{sym}
-use Rattle.moves_tell.specs.laws.Told.{room_first, room_rest, room_same, told_then, told_same}
+use Rattle.moves_tell.proofs.laws.Told.{room_first, room_rest, room_same, told_then, told_same}
 use Rattle.moves_tell.proofs.Telling.{change_is}
 use borrow.Author.Rules.{rules}
 use Rattle.moves_tell.proofs.act.tell_change.Statement.{statement}

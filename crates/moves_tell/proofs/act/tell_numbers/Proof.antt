@@ -1,8 +1,8 @@
 -- `tell_numbers` meets its contract: by the move that was made.
 use native.Mathlib.Omega.{arith}
 use mathlib.Core.Path.{sym}
-use Rattle.rules_moves.specs.laws.Next.{ready_action}
-use Rattle.moves_tell.specs.laws.Told.{told_none, told_same, room_same}
+use Rattle.rules_moves.proofs.laws.Next.{ready_action}
+use Rattle.moves_tell.proofs.laws.Told.{told_none, told_same, room_same}
 use Rattle.moves_tell.proofs.Telling.{take_told, change_told, idle_told, step_told, end_told, back_told, nothing_told}
 use borrow.Author.Rules.{rules}
 use Rattle.moves_tell.proofs.act.tell_numbers.Statement.{statement}

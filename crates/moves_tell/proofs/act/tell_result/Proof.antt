@@ -1,7 +1,7 @@
 -- `tell_result` meets its contract.
 use native.Mathlib.Omega.{arith}
 use mathlib.Core.Path.{sym}
-use Rattle.moves_tell.specs.laws.Told.{told_same, room_same}
+use Rattle.moves_tell.proofs.laws.Told.{told_same, room_same}
 use Rattle.moves_tell.proofs.Telling.{result_is}
 use borrow.Author.Rules.{rules}
 use Rattle.moves_tell.proofs.act.tell_result.Statement.{statement}

@@ -1,6 +1,6 @@
 -- `tell_step` meets its contract: the step's own frame names the variable, and what its operation gives is what is told.
 use mathlib.Core.Path.{sym}
-use Rattle.moves_tell.specs.laws.Told.{told_same, room_same}
+use Rattle.moves_tell.proofs.laws.Told.{told_same, room_same}
 use Rattle.moves_tell.proofs.Telling.{step_is, step_in}
 use borrow.Author.Rules.{rules}
 use Rattle.moves_tell.proofs.act.tell_step.Statement.{statement}

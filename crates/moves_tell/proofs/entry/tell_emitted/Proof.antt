@@ -1,7 +1,7 @@
 -- `tell_emitted` meets its contract.
 use native.Mathlib.Omega.{arith}
 use mathlib.Core.Path.{sym}
-use Rattle.moves_tell.specs.laws.Told.{told_same, room_same}
+use Rattle.moves_tell.proofs.laws.Told.{told_same, room_same}
 use Rattle.moves_tell.proofs.Telling.{emitted_is}
 use borrow.Author.Rules.{rules}
 use Rattle.moves_tell.proofs.entry.tell_emitted.Statement.{statement}

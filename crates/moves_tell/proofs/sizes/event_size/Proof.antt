@@ -1,6 +1,6 @@
 -- `event_size` meets its contract.
 use mathlib.Core.Path.{sym}
-use Rattle.moves_tell.specs.laws.Sized.{sized_none, sized_emitted, sized_same}
+use Rattle.moves_tell.proofs.laws.Sized.{sized_none, sized_emitted, sized_same}
 use Rattle.moves_tell.proofs.Telling.{no_event, some_event}
 use borrow.Author.Rules.{rules}
 use Rattle.moves_tell.proofs.sizes.event_size.Statement.{statement}

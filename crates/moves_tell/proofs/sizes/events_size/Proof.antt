@@ -1,7 +1,7 @@
 -- `events_size` meets its contract: one after another.
 use native.Mathlib.Omega.{arith}
-use Rattle.moves_tell.specs.laws.Sized.{sized_events}
-use Rattle.moves_tell.specs.laws.Taking.{element_in}
+use Rattle.moves_tell.proofs.laws.Sized.{sized_events}
+use Rattle.moves_tell.proofs.laws.Taking.{element_in}
 use borrow.Author.Rules.{rules}
 use Rattle.moves_tell.proofs.sizes.events_size.Statement.{statement}
 use Rattle.moves_tell.proofs.sizes.events_size.Tie as tie

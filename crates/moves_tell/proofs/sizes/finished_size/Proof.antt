@@ -1,7 +1,7 @@
 -- `finished_size` meets its contract.
 use native.Mathlib.Omega.{arith}
-use Rattle.moves_tell.specs.laws.Sized.{sized_none, sized_one, sized_same}
-use Rattle.moves_tell.specs.laws.Taking.{not_at_once, at_once}
+use Rattle.moves_tell.proofs.laws.Sized.{sized_none, sized_one, sized_same}
+use Rattle.moves_tell.proofs.laws.Taking.{not_at_once, at_once}
 use borrow.Author.Rules.{rules}
 use Rattle.moves_tell.proofs.sizes.finished_size.Statement.{statement}
 use Rattle.moves_tell.proofs.sizes.finished_size.Tie as tie

@@ -1,8 +1,8 @@
 -- `first_size` meets its contract: by what comes next.
 use native.Mathlib.Omega.{arith}
-use Rattle.rules_moves.specs.laws.Next.{ready_input, ready_transition, ready_step, ready_action}
-use Rattle.moves_tell.specs.laws.Sized.{sized_none, sized_one, sized_same}
-use Rattle.moves_tell.specs.laws.Telling.{is_good, is_ready, take_all, change_all, idle_all, step_all, end_all, back_all, nothing_all}
+use Rattle.rules_moves.proofs.laws.Next.{ready_input, ready_transition, ready_step, ready_action}
+use Rattle.moves_tell.proofs.laws.Sized.{sized_none, sized_one, sized_same}
+use Rattle.moves_tell.proofs.laws.Telling.{is_good, is_ready, take_all, change_all, idle_all, step_all, end_all, back_all, nothing_all}
 use borrow.Author.Rules.{rules}
 use Rattle.moves_tell.proofs.sizes.first_size.Statement.{statement}
 use Rattle.moves_tell.proofs.sizes.first_size.Tie as tie

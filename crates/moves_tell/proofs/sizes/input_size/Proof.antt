@@ -1,8 +1,8 @@
 -- `input_size` meets its contract.
 use native.Mathlib.Omega.{arith}
 use mathlib.Core.Path.{refl}
-use Rattle.moves_tell.specs.laws.Sized.{sized_none, sized_one, sized_same}
-use Rattle.moves_tell.specs.laws.Taking.{sampled_none, sampled_is}
+use Rattle.moves_tell.proofs.laws.Sized.{sized_none, sized_one, sized_same}
+use Rattle.moves_tell.proofs.laws.Taking.{sampled_none, sampled_is}
 use borrow.Author.Rules.{rules}
 use Rattle.moves_tell.proofs.sizes.input_size.Statement.{statement}
 use Rattle.moves_tell.proofs.sizes.input_size.Tie as tie

@@ -9,8 +9,8 @@ use Rattle.rules_tables.specs.Owned.{belongs}
 use Rattle.rules_traces.specs.Gather.{gather}
 use Rattle.moves_tell.specs.Before.{sampled_entry}
 use Rattle.moves_tell.specs.Told.{Sized}
-use Rattle.moves_tell.specs.laws.Sized.{sized_same, sized_first, sized_next}
-use Rattle.moves_tell.specs.laws.Partners.{not_sampled}
+use Rattle.moves_tell.proofs.laws.Sized.{sized_same, sized_first, sized_next}
+use Rattle.moves_tell.proofs.laws.Partners.{not_sampled}
 use borrow.Author.Rules.{rules}
 use Rattle.moves_tell.proofs.sizes.inputs_size.Statement.{statement}
 use Rattle.moves_tell.proofs.sizes.inputs_size.Tie as tie

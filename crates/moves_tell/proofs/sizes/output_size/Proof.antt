@@ -2,8 +2,8 @@
 use native.Mathlib.Omega.{arith}
 use mathlib.Core.Path.{refl, ◌∙◌}
 use mathlib.Core.List.{[]}
-use Rattle.moves_tell.specs.laws.Sized.{sized_none, sized_one, sized_same}
-use Rattle.moves_tell.specs.laws.Taking.{pass_none, pass_one, pass_in, passed_none, passed_is}
+use Rattle.moves_tell.proofs.laws.Sized.{sized_none, sized_one, sized_same}
+use Rattle.moves_tell.proofs.laws.Taking.{pass_none, pass_one, pass_in, passed_none, passed_is}
 use borrow.Author.Rules.{rules}
 use Rattle.moves_tell.proofs.sizes.output_size.Statement.{statement}
 use Rattle.moves_tell.proofs.sizes.output_size.Tie as tie

@@ -10,8 +10,8 @@ use Rattle.rules_traces.specs.Gather.{gather}
 use Rattle.moves_tell.specs.Before.{passed_entries}
 use Rattle.moves_tell.specs.Pairs.{partner_entry}
 use Rattle.moves_tell.specs.Told.{Sized}
-use Rattle.moves_tell.specs.laws.Sized.{sized_same, sized_first, sized_next}
-use Rattle.moves_tell.specs.laws.Partners.{not_passed, in_order}
+use Rattle.moves_tell.proofs.laws.Sized.{sized_same, sized_first, sized_next}
+use Rattle.moves_tell.proofs.laws.Partners.{not_passed, in_order}
 use borrow.Author.Rules.{rules}
 use Rattle.moves_tell.proofs.sizes.outputs_size.Statement.{statement}
 use Rattle.moves_tell.proofs.sizes.outputs_size.Tie as tie

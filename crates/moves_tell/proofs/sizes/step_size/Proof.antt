@@ -1,6 +1,6 @@
 -- `step_size` meets its contract: a frame where the variable's value is not what the step's operation gives.
 use mathlib.Core.Path.{refl, ◌∙◌}
-use Rattle.moves_tell.specs.laws.Sized.{sized_same, sized_differing_not, sized_differing}
+use Rattle.moves_tell.proofs.laws.Sized.{sized_same, sized_differing_not, sized_differing}
 use Rattle.moves_tell.proofs.Telling.{result_is, step_is}
 use borrow.Author.Rules.{rules}
 use Rattle.moves_tell.proofs.sizes.step_size.Statement.{statement}

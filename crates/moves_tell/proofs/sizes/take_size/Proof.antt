@@ -1,6 +1,6 @@
 -- `take_size` meets its contract: what changes, then what happens.
-use Rattle.moves_tell.specs.laws.Sized.{sized_then}
-use Rattle.moves_tell.specs.laws.Taking.{el_is}
+use Rattle.moves_tell.proofs.laws.Sized.{sized_then}
+use Rattle.moves_tell.proofs.laws.Taking.{el_is}
 use borrow.Author.Rules.{rules}
 use Rattle.moves_tell.proofs.sizes.take_size.Statement.{statement}
 use Rattle.moves_tell.proofs.sizes.take_size.Tie as tie

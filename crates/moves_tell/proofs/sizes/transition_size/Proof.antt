@@ -1,5 +1,5 @@
 -- `transition_size` meets its contract: the chart state, then the transition.
-use Rattle.moves_tell.specs.laws.Sized.{sized_one, sized_same, sized_then, sized_differing_not, sized_differing}
+use Rattle.moves_tell.proofs.laws.Sized.{sized_one, sized_same, sized_then, sized_differing_not, sized_differing}
 use Rattle.moves_tell.proofs.Telling.{change_is}
 use borrow.Author.Rules.{rules}
 use Rattle.moves_tell.proofs.sizes.transition_size.Statement.{statement}

@@ -8,7 +8,7 @@ use Rattle.rules_tables.specs.Kind.{of_input}
 use Rattle.rules_tables.specs.Ids.{first_association, associations}
 use Rattle.rules_tables.specs.Owned.{belongs}
 use Rattle.rules_moves.specs.Associated.{joins_variable}
-use Rattle.moves_tell.specs.laws.Taking.{seek_first, seek_hit, seek_more, seek_end}
+use Rattle.moves_tell.proofs.laws.Taking.{seek_first, seek_hit, seek_more, seek_end}
 use borrow.Author.Rules.{rules}
 use Rattle.moves_tell.proofs.take.associates.Statement.{statement}
 use Rattle.moves_tell.proofs.take.associates.Tie as tie

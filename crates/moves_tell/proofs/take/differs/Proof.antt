@@ -1,5 +1,5 @@
 -- `differs` meets its contract: the values first, and where they differ the associations.
-use Rattle.moves_tell.specs.laws.Taking.{differs_not, differs_if}
+use Rattle.moves_tell.proofs.laws.Taking.{differs_not, differs_if}
 use borrow.Author.Rules.{rules}
 use Rattle.moves_tell.proofs.take.differs.Statement.{statement}
 use Rattle.moves_tell.proofs.take.differs.Tie as tie

@@ -1,8 +1,8 @@
 -- `tell_finished` meets its contract.
 use native.Mathlib.Omega.{arith}
 use mathlib.Core.Path.{sym}
-use Rattle.moves_tell.specs.laws.Told.{told_none, told_same, room_same}
-use Rattle.moves_tell.specs.laws.Taking.{not_at_once, at_once}
+use Rattle.moves_tell.proofs.laws.Told.{told_none, told_same, room_same}
+use Rattle.moves_tell.proofs.laws.Taking.{not_at_once, at_once}
 use borrow.Author.Rules.{rules}
 use Rattle.moves_tell.proofs.take.tell_finished.Statement.{statement}
 use Rattle.moves_tell.proofs.take.tell_finished.Tie as tie

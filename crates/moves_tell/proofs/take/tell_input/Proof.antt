@@ -2,8 +2,8 @@
 use native.Mathlib.Omega.{arith}
 use mathlib.Core.Path.{sym}
 use borrow.Author.Tests.{not-true, not-false}
-use Rattle.moves_tell.specs.laws.Told.{told_none, told_same, room_same}
-use Rattle.moves_tell.specs.laws.Taking.{sampled_none, sampled_is}
+use Rattle.moves_tell.proofs.laws.Told.{told_none, told_same, room_same}
+use Rattle.moves_tell.proofs.laws.Taking.{sampled_none, sampled_is}
 use borrow.Author.Rules.{rules}
 use Rattle.moves_tell.proofs.take.tell_input.Statement.{statement}
 use Rattle.moves_tell.proofs.take.tell_input.Tie as tie

@@ -10,8 +10,8 @@ use Rattle.rules_tables.specs.Owned.{belongs}
 use Rattle.rules_traces.specs.Gather.{gather}
 use Rattle.moves_tell.specs.Told.{Told}
 use Rattle.moves_tell.specs.Before.{sampled_entry}
-use Rattle.moves_tell.specs.laws.Told.{told_first, told_next, told_same, told_length, room_more}
-use Rattle.moves_tell.specs.laws.Partners.{not_sampled}
+use Rattle.moves_tell.proofs.laws.Told.{told_first, told_next, told_same, told_length, room_more}
+use Rattle.moves_tell.proofs.laws.Partners.{not_sampled}
 use borrow.Author.Rules.{rules}
 use Rattle.moves_tell.proofs.take.tell_inputs.Statement.{statement}
 use Rattle.moves_tell.proofs.take.tell_inputs.Tie as tie

@@ -3,8 +3,8 @@ use native.Mathlib.Omega.{arith}
 use mathlib.Core.Path.{sym, ◌∙◌}
 use mathlib.Core.List.{[]}
 use borrow.Author.Tests.{not-true, not-false}
-use Rattle.moves_tell.specs.laws.Told.{told_none, told_same, room_same}
-use Rattle.moves_tell.specs.laws.Taking.{pass_none, pass_one, pass_in, passed_none, passed_is}
+use Rattle.moves_tell.proofs.laws.Told.{told_none, told_same, room_same}
+use Rattle.moves_tell.proofs.laws.Taking.{pass_none, pass_one, pass_in, passed_none, passed_is}
 use borrow.Author.Rules.{rules}
 use Rattle.moves_tell.proofs.take.tell_output.Statement.{statement}
 use Rattle.moves_tell.proofs.take.tell_output.Tie as tie

@@ -11,8 +11,8 @@ use Rattle.rules_traces.specs.Gather.{gather}
 use Rattle.moves_tell.specs.Told.{Told}
 use Rattle.moves_tell.specs.Before.{passed_entries}
 use Rattle.moves_tell.specs.Pairs.{partner_entry}
-use Rattle.moves_tell.specs.laws.Told.{told_first, told_next, told_same, told_length, room_more, room_same}
-use Rattle.moves_tell.specs.laws.Partners.{not_passed, in_order}
+use Rattle.moves_tell.proofs.laws.Told.{told_first, told_next, told_same, told_length, room_more, room_same}
+use Rattle.moves_tell.proofs.laws.Partners.{not_passed, in_order}
 use borrow.Author.Rules.{rules}
 use Rattle.moves_tell.proofs.take.tell_outputs.Statement.{statement}
 use Rattle.moves_tell.proofs.take.tell_outputs.Tie as tie

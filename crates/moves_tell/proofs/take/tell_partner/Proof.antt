@@ -1,6 +1,6 @@
 -- `tell_partner` meets its contract: found or not.
 use mathlib.Core.Path.{sym}
-use Rattle.moves_tell.specs.laws.Told.{told_none, told_same, room_same}
+use Rattle.moves_tell.proofs.laws.Told.{told_none, told_same, room_same}
 use Rattle.moves_tell.proofs.Telling.{partner_none, partner_one, partner_below}
 use borrow.Author.Rules.{rules}
 use Rattle.moves_tell.proofs.take.tell_partner.Statement.{statement}

@@ -1,6 +1,6 @@
 -- `tell_take` meets its contract: what changes, then what happens.
-use Rattle.moves_tell.specs.laws.Told.{room_first, room_rest, told_then}
-use Rattle.moves_tell.specs.laws.Taking.{el_is}
+use Rattle.moves_tell.proofs.laws.Told.{room_first, room_rest, told_then}
+use Rattle.moves_tell.proofs.laws.Taking.{el_is}
 use borrow.Author.Rules.{rules}
 use Rattle.moves_tell.proofs.take.tell_take.Statement.{statement}
 use Rattle.moves_tell.proofs.take.tell_take.Tie as tie

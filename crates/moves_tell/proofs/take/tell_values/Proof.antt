@@ -1,8 +1,8 @@
 -- `tell_values` meets its contract: inputs, then an interface's outputs.
 use mathlib.Core.Path.{sym}
 use Rattle.moves_tell.specs.Before.{take_entries}
-use Rattle.moves_tell.specs.laws.Told.{room_first, room_rest, room_same, told_then, told_same}
-use Rattle.moves_tell.specs.laws.Taking.{element_in, plain_values, interface_values}
+use Rattle.moves_tell.proofs.laws.Told.{room_first, room_rest, room_same, told_then, told_same}
+use Rattle.moves_tell.proofs.laws.Taking.{element_in, plain_values, interface_values}
 use borrow.Author.Rules.{rules}
 use Rattle.moves_tell.proofs.take.tell_values.Statement.{statement}
 use Rattle.moves_tell.proofs.take.tell_values.Tie as tie

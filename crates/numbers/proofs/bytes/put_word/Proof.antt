@@ -1,7 +1,7 @@
 -- `number::bytes::put_word` meets its contract: the two halves are written one after the other (`and_then_lem`).
 use Prim.Native.Nat.{◌+◌, ◌/◌, ◌%◌}
 use mathlib.Core.Path.{refl}
-use Rattle.rules_numbers.specs.laws.Sets.{and_then_lem}
+use Rattle.rules_numbers.proofs.laws.Sets.{and_then_lem}
 use Rattle.rules_numbers.specs.Bytes.{half_bytes, word_bytes}
 use borrow.Author.Rules.{rules}
 use Rattle.numbers.proofs.bytes.put_word.Statement.{statement}

@@ -1,6 +1,6 @@
 -- `exact` meets its contract: a value is equal to itself.
 use mir.Facts.{to_z-of_z}
-use Rattle.rules_numbers.specs.laws.Equal.{equal_self}
+use Rattle.rules_numbers.proofs.laws.Equal.{equal_self}
 use Rattle.numbers.proofs.clip.exact.Statement.{statement}
 use Rattle.numbers.proofs.clip.exact.Tie as tie
 

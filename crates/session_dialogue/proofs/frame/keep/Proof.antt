@@ -1,7 +1,7 @@
 -- `keep` meets its contract: there is room for the frame, or it is dropped from a table that is too long.
 use Rattle.session_dialogue.proofs.Buffers.{frame_dropped, frame_kept}
 use Rattle.rules_sessions.specs.Line.{line_frame}
-use Rattle.rules_sessions.specs.laws.Digits.{frame_length}
+use Rattle.rules_sessions.proofs.laws.Digits.{frame_length}
 use native.Mathlib.Omega.{arith}
 use borrow.Author.Rules.{rules}
 use Rattle.session_dialogue.proofs.frame.keep.Statement.{statement}

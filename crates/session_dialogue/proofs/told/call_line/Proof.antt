@@ -1,7 +1,7 @@
 -- `call_line` meets its contract: one case for each command.
 use Rattle.session_dialogue.proofs.Telling.{took_is, calm_more, call_by_lem}
 use Rattle.session_dialogue.proofs.Buffers.{came_none}
-use Rattle.rules_sessions.specs.laws.Digits.{arrival_few}
+use Rattle.rules_sessions.proofs.laws.Digits.{arrival_few}
 use native.Mathlib.Omega.{arith}
 use mathlib.Core.Path.{sym, ◌∙◌}
 use mathlib.Core.List.{[]}

@@ -1,5 +1,5 @@
 -- `line_command` meets its contract: the frame of a line of the form decides.
-use Rattle.lines.specs.laws.Frame.{frame_whole}
+use Rattle.lines.proofs.laws.Frame.{frame_whole}
 use Rattle.rules_sessions.specs.Command.{command_of, line_command}
 use borrow.Author.Tests.{not-true, not-false}
 use mathlib.Core.Path.{sym, ap, ◌∙◌}

@@ -1,7 +1,7 @@
 -- `elements_ok` meets its contract. The invariant: the elements passed are well formed.
 use Rattle.store_load.proofs.formed.elements_ok.Statement.{statement}
 use Rattle.rules_walks.specs.All.{all_to}
-use Rattle.rules_walks.specs.laws.All.{all_none, all_more, all_stop}
+use Rattle.rules_walks.proofs.laws.All.{all_none, all_more, all_stop}
 use Rattle.rules_store.specs.WellFormed.{element_ok}
 use borrow.Author.Rules.{rules}
 use borrow.Author.Tests.{not-true, not-false}

@@ -1,7 +1,7 @@
 -- `spares_ok` meets its contract. The invariant: the words passed are zero.
 use Rattle.store_load.proofs.header.spares_ok.Statement.{statement}
 use Rattle.rules_walks.specs.All.{all_to}
-use Rattle.rules_walks.specs.laws.All.{all_none, all_more, all_stop}
+use Rattle.rules_walks.proofs.laws.All.{all_none, all_more, all_stop}
 use Rattle.rules_store.specs.Word.{spares}
 use Rattle.rules_store.specs.WellFormed.{spare_ok}
 use borrow.Author.Rules.{rules}

@@ -1,7 +1,7 @@
 -- `step_ok` meets its contract: what was found decides (`step_none`, `step_one`).
 use borrow.Author.Rules.{rules}
 use Rattle.store_load.proofs.header.step_ok.Statement.{statement}
-use Rattle.store_words.specs.laws.Found.{action_in}
+use Rattle.store_words.proofs.laws.Found.{action_in}
 use Rattle.store_load.proofs.Turns.{step_none, step_one}
 use borrow.Author.Tests.{eq-eqb, ne_eqb}
 use mathlib.Core.Path.{sym, ◌∙◌}

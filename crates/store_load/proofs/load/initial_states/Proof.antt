@@ -1,7 +1,7 @@
 -- `initial_states` meets its contract. The invariant: the elements passed have their initial states.
 use Rattle.store_load.proofs.load.initial_states.Statement.{statement}
 use Rattle.rules_walks.specs.Walk.{up_to}
-use Rattle.rules_walks.specs.laws.Walk.{up_to_none, up_to_more, up_to_end}
+use Rattle.rules_walks.proofs.laws.Walk.{up_to_none, up_to_more, up_to_end}
 use Rattle.rules_store.specs.Load.{initial}
 use Rattle.store_load.proofs.Turns.{initial_basic, initial_other}
 use borrow.Author.Rules.{rules}

@@ -1,6 +1,6 @@
 -- `zero` meets its contract. The invariant: the first k words are zeroed.
 use Rattle.store_load.proofs.load.zero.Statement.{statement}
-use Rattle.rules_walks.specs.laws.Walk.{up_to_none, up_to_more, up_to_end}
+use Rattle.rules_walks.proofs.laws.Walk.{up_to_none, up_to_more, up_to_end}
 use Rattle.rules_store.specs.Load.{zeroes}
 use borrow.Author.Rules.{rules}
 use lib.ListN.{length, length-set}

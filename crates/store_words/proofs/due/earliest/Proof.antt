@@ -5,7 +5,7 @@ use mathlib.Core.Path.{◌≡◌, refl, ◌∙◌}
 use native.Mathlib.Omega.{arith}
 use Prim.Native.Nat.{◌-◌, ◌≤◌}
 use Rattle.rules_store.specs.Due.{earliest}
-use Rattle.store_words.specs.laws.Due.{look_idle, look_due}
+use Rattle.store_words.proofs.laws.Due.{look_idle, look_due}
 use Rattle.store_words.proofs.due.earliest.Statement.{statement}
 use Rattle.store_words.proofs.due.earliest.Tie as tie
 

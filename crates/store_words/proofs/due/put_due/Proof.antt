@@ -1,6 +1,6 @@
 -- `put_due` meets its contract: it comes first, or the next due time stays, or looking finds it.
 use borrow.Author.Rules.{rules}
-use Rattle.store_words.specs.laws.Due.{first_put, stays_put, look_put}
+use Rattle.store_words.proofs.laws.Due.{first_put, stays_put, look_put}
 use Rattle.store_words.proofs.due.put_due.Statement.{statement}
 use Rattle.store_words.proofs.due.put_due.Tie as tie
 

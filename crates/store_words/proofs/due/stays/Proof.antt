@@ -3,7 +3,7 @@ use borrow.Author.Rules.{rules}
 use borrow.Author.Tests.{not-true}
 use mathlib.Core.Path.{sym, ◌∙◌}
 use native.Mathlib.Omega.{arith}
-use Rattle.store_words.specs.laws.Due.{another_found}
+use Rattle.store_words.proofs.laws.Due.{another_found}
 use Rattle.store_words.proofs.due.stays.Statement.{statement}
 use Rattle.store_words.proofs.due.stays.Tie as tie
 

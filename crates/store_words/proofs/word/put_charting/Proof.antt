@@ -1,6 +1,6 @@
 -- `put_charting` meets its contract: the other words stay as they are (`only_mode`).
 use borrow.Author.Rules.{rules}
-use Rattle.store_words.specs.laws.Running.{only_mode}
+use Rattle.store_words.proofs.laws.Running.{only_mode}
 use Rattle.store_words.proofs.word.put_charting.Statement.{statement}
 use Rattle.store_words.proofs.word.put_charting.Tie as tie
 

@@ -1,6 +1,6 @@
 -- `put_entered` meets its contract: the birth stays as it is (`all_but_birth`).
 use borrow.Author.Rules.{rules}
-use Rattle.store_words.specs.laws.Running.{all_but_birth}
+use Rattle.store_words.proofs.laws.Running.{all_but_birth}
 use Rattle.store_words.proofs.word.put_entered.Statement.{statement}
 use Rattle.store_words.proofs.word.put_entered.Tie as tie
 

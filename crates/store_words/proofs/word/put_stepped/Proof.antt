@@ -1,6 +1,6 @@
 -- `put_stepped` meets its contract: the other words stay as they are (`only_step`).
 use borrow.Author.Rules.{rules}
-use Rattle.store_words.specs.laws.Running.{only_step}
+use Rattle.store_words.proofs.laws.Running.{only_step}
 use Rattle.store_words.proofs.word.put_stepped.Statement.{statement}
 use Rattle.store_words.proofs.word.put_stepped.Tie as tie
 

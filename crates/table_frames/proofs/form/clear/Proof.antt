@@ -2,7 +2,7 @@
 use borrow.Author.Rules.{rules}
 use Rattle.table_frames.proofs.form.clear.Statement.{statement}
 use Rattle.rules_walks.specs.All.{all_to}
-use Rattle.rules_walks.specs.laws.All.{all_intro, all_more, all_stop, all_less}
+use Rattle.rules_walks.proofs.laws.All.{all_intro, all_more, all_stop, all_less}
 use Rattle.rules_tables.specs.Form.{clear_at}
 use borrow.Author.Tests.{lt-ltb, le-ltb, eq-eqb, ne_eqb}
 use mathlib.Core.Bool.{true}

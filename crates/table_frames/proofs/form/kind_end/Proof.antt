@@ -6,8 +6,8 @@ use mathlib.Core.Path.{sym, ◌∙◌}
 use native.Mathlib.Omega.{arith}
 use Prim.Native.Nat.{◌≤◌, ◌-◌}
 use Rattle.table_frames.specs.Walked.{KindTo}
-use Rattle.table_frames.specs.laws.Walked.{kind_none, kind_more, kind_other, kind_broken, kind_full}
-use Rattle.table_frames.specs.laws.Form.{held_flags, held_fields, held_most}
+use Rattle.table_frames.proofs.laws.Walked.{kind_none, kind_more, kind_other, kind_broken, kind_full}
+use Rattle.table_frames.proofs.laws.Form.{held_flags, held_fields, held_most}
 use Rattle.table_frames.proofs.form.kind_end.Tie as tie
 
 abbrev invariant-loop : tie.invariant-loop

@@ -2,8 +2,8 @@
 use borrow.Author.Rules.{rules}
 use Rattle.table_frames.proofs.place.place.Statement.{statement}
 use Rattle.rules_tables.specs.Place.{place}
-use Rattle.rules_tables.specs.laws.Places.{place_start, place_found}
-use Rattle.table_frames.specs.laws.Placed.{id_in, placed_at}
+use Rattle.rules_tables.proofs.laws.Places.{place_start, place_found}
+use Rattle.table_frames.proofs.laws.Placed.{id_in, placed_at}
 use mathlib.Core.Path.{◌≡◌, refl, ◌∙◌}
 use native.Mathlib.Omega.{arith}
 use Rattle.table_frames.proofs.place.place.Tie as tie

@@ -2,7 +2,7 @@
 use borrow.Author.Rules.{rules}
 use Rattle.table_frames.proofs.place.put_places.Statement.{statement}
 use Rattle.table_frames.specs.Placed.{Placed, Nexts}
-use Rattle.table_frames.specs.laws.Placed.{slot_in, placed_none, placed_hit, placed_miss, nexts_none, nexts_hit, nexts_miss}
+use Rattle.table_frames.proofs.laws.Placed.{slot_in, placed_none, placed_hit, placed_miss, nexts_none, nexts_hit, nexts_miss}
 use lib.ListN.{length, length-set}
 use mathlib.Core.Logic.{⊎_elim}
 use mathlib.Core.Path.{◌≡◌, refl, sym}

@@ -1,6 +1,6 @@
 -- `starts` meets its contract. The invariant: the entries up to k are the starts (`next_start`).
 use Rattle.table_frames.proofs.place.starts.Statement.{statement}
-use Rattle.rules_tables.specs.laws.Places.{below_next, below_none, below_le, next_start}
+use Rattle.rules_tables.proofs.laws.Places.{below_next, below_none, below_le, next_start}
 use Rattle.rules_tables.specs.Frame.{frames_of}
 use Rattle.rules_tables.specs.Place.{start_of}
 use borrow.Author.Rules.{rules}

@@ -1,7 +1,7 @@
 -- `counts` meets its contract. The invariant: the frames passed are tallied by their kind.
 use Rattle.table_frames.proofs.tally.counts.Statement.{statement}
 use Rattle.rules_walks.specs.Tally.{Tallied}
-use Rattle.rules_walks.specs.laws.Tally.{tallied_none, tallied_more, tallied_small}
+use Rattle.rules_walks.proofs.laws.Tally.{tallied_none, tallied_more, tallied_small}
 use Rattle.rules_tables.specs.Frame.{kind_at}
 use borrow.Author.Rules.{rules}
 use lib.ListN.{length}

@@ -7,8 +7,8 @@ use Rattle.rules_tables.specs.Ids.{first_action, actions}
 use Rattle.rules_tables.specs.Owned.{any, nth}
 use Rattle.rules_tables.specs.Actions.{action_of}
 use Rattle.table_index.specs.Leads.{or_end}
-use Rattle.table_index.specs.laws.Nth.{nth_first}
-use Rattle.table_index.specs.laws.Actions.{action_more, action_past, action_at}
+use Rattle.table_index.proofs.laws.Nth.{nth_first}
+use Rattle.table_index.proofs.laws.Actions.{action_more, action_past, action_at}
 use Rattle.table_index.proofs.actions.action_of.Statement.{statement}
 use Rattle.table_index.proofs.actions.action_of.Tie as tie
 

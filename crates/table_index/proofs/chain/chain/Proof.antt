@@ -2,7 +2,7 @@ use borrow.Author.Rules.{rules}
 use Prim.Native.Nat.{◌≤◌, ◌-◌, ◌+◌}
 use mathlib.Core.Path.{◌≡◌}
 use native.Mathlib.Omega.{arith}
-use Rattle.table_index.specs.laws.Chain.{chained_none, chained_link, apart_none, apart_linked, apart_filled}
+use Rattle.table_index.proofs.laws.Chain.{chained_none, chained_link, apart_none, apart_linked, apart_filled}
 use Rattle.table_index.specs.Chain.{owner_at, Chained, Apart}
 use Rattle.table_index.proofs.chain.chain.Statement.{statement}
 use Rattle.table_index.proofs.chain.chain.Tie as tie

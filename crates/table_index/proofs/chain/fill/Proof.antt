@@ -2,7 +2,7 @@ use borrow.Author.Rules.{rules}
 use mathlib.Core.Path.{◌≡◌}
 use native.Mathlib.Omega.{arith}
 use Prim.Native.Nat.{◌≤◌, ◌-◌}
-use Rattle.table_index.specs.laws.Chain.{filled_none, filled_more}
+use Rattle.table_index.proofs.laws.Chain.{filled_none, filled_more}
 use Rattle.table_index.specs.Chain.{Filled}
 use Rattle.table_index.proofs.chain.fill.Statement.{statement}
 use Rattle.table_index.proofs.chain.fill.Tie as tie

@@ -1,6 +1,6 @@
 use native.Mathlib.Omega.{arith}
 use lib.ListN.{length-set}
-use Rattle.table_index.specs.laws.Chain.{link_is}
+use Rattle.table_index.proofs.laws.Chain.{link_is}
 use borrow.Author.Rules.{rules}
 use Rattle.table_index.proofs.chain.link.Statement.{statement}
 use Rattle.table_index.proofs.chain.link.Tie as tie

@@ -1,5 +1,5 @@
 use mathlib.Core.Path.{◌∙◌}
-use Rattle.table_index.specs.laws.Making.{ask_associations, ask_connections, ask_links, events_done}
+use Rattle.table_index.proofs.laws.Making.{ask_associations, ask_connections, ask_links, events_done}
 use borrow.Author.Rules.{rules}
 use Rattle.table_index.proofs.index.index_events.Statement.{statement}
 use Rattle.table_index.proofs.index.index_events.Tie as tie

@@ -1,6 +1,6 @@
 use mathlib.Core.Path.{◌∙◌}
-use Rattle.table_index.specs.laws.Partnering.{ask_output_pairs, outputs_done}
-use Rattle.table_index.specs.laws.Making.{ask_outputs}
+use Rattle.table_index.proofs.laws.Partnering.{ask_output_pairs, outputs_done}
+use Rattle.table_index.proofs.laws.Making.{ask_outputs}
 use borrow.Author.Rules.{rules}
 use Rattle.table_index.proofs.index.index_outputs.Statement.{statement}
 use Rattle.table_index.proofs.index.index_outputs.Tie as tie

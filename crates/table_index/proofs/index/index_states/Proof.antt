@@ -1,5 +1,5 @@
 use mathlib.Core.Path.{◌∙◌}
-use Rattle.table_index.specs.laws.Making.{ask_transitions, ask_actions, states_done}
+use Rattle.table_index.proofs.laws.Making.{ask_transitions, ask_actions, states_done}
 use borrow.Author.Rules.{rules}
 use Rattle.table_index.proofs.index.index_states.Statement.{statement}
 use Rattle.table_index.proofs.index.index_states.Tie as tie

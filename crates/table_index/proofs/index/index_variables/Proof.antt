@@ -1,6 +1,6 @@
 use mathlib.Core.Path.{◌∙◌}
-use Rattle.table_index.specs.laws.Partnering.{ask_variable_pairs, variables_done}
-use Rattle.table_index.specs.laws.Making.{ask_variables}
+use Rattle.table_index.proofs.laws.Partnering.{ask_variable_pairs, variables_done}
+use Rattle.table_index.proofs.laws.Making.{ask_variables}
 use borrow.Author.Rules.{rules}
 use Rattle.table_index.proofs.index.index_variables.Statement.{statement}
 use Rattle.table_index.proofs.index.index_variables.Tie as tie

@@ -2,8 +2,8 @@ use Prim.Native.Nat.{◌≤◌, ◌+◌, ◌-◌}
 use borrow.Author.Rules.{rules}
 use mathlib.Core.Path.{◌≡◌, refl}
 use native.Mathlib.Omega.{arith}
-use Rattle.table_index.specs.laws.Pair.{pairing_more, apart_paired}
-use Rattle.table_index.specs.laws.Chain.{apart_none}
+use Rattle.table_index.proofs.laws.Pair.{pairing_more, apart_paired}
+use Rattle.table_index.proofs.laws.Chain.{apart_none}
 use Rattle.table_index.specs.Chain.{Apart}
 use Rattle.table_index.specs.Pair.{Pairing}
 use Rattle.table_index.proofs.pair.pair.Statement.{statement}

@@ -1,7 +1,7 @@
 use native.Mathlib.Omega.{arith}
 use lib.ListN.{length, get_or, length-set}
 use Prim.Native.Nat.{◌+◌}
-use Rattle.table_index.specs.laws.Pair.{noted_long, paired_on, paired_off}
+use Rattle.table_index.proofs.laws.Pair.{noted_long, paired_on, paired_off}
 use mathlib.Core.Path.{refl, ap, ◌∙◌}
 use borrow.Author.Rules.{rules}
 use Rattle.table_index.proofs.pair.pair_one.Statement.{statement}

@@ -1,5 +1,5 @@
 use native.Mathlib.Omega.{arith}
-use Rattle.table_index.specs.laws.Entries.{first_event, first_far, first_other}
+use Rattle.table_index.proofs.laws.Entries.{first_event, first_far, first_other}
 use borrow.Author.Rules.{rules}
 use Rattle.table_index.proofs.read.first_association.Statement.{statement}
 use Rattle.table_index.proofs.read.first_association.Tie as tie

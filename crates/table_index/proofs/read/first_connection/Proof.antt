@@ -1,4 +1,4 @@
-use Rattle.table_index.specs.laws.Owned.{first_any, first_beyond}
+use Rattle.table_index.proofs.laws.Owned.{first_any, first_beyond}
 use borrow.Author.Rules.{rules}
 use Rattle.table_index.proofs.read.first_connection.Statement.{statement}
 use Rattle.table_index.proofs.read.first_connection.Tie as tie

@@ -1,5 +1,5 @@
 use native.Mathlib.Omega.{arith}
-use Rattle.table_index.specs.laws.Owned.{first_any, first_beyond}
+use Rattle.table_index.proofs.laws.Owned.{first_any, first_beyond}
 use borrow.Author.Rules.{rules}
 use Rattle.table_index.proofs.read.first_link.Statement.{statement}
 use Rattle.table_index.proofs.read.first_link.Tie as tie

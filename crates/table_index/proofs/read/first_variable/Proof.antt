@@ -1,5 +1,5 @@
-use Rattle.table_index.specs.laws.Owned.{first_beyond}
-use Rattle.table_index.specs.laws.Partnering.{variable_owner}
+use Rattle.table_index.proofs.laws.Owned.{first_beyond}
+use Rattle.table_index.proofs.laws.Partnering.{variable_owner}
 use borrow.Author.Rules.{rules}
 use Rattle.table_index.proofs.read.first_variable.Statement.{statement}
 use Rattle.table_index.proofs.read.first_variable.Tie as tie

@@ -1,4 +1,4 @@
-use Rattle.table_index.specs.laws.Owned.{follows_any}
+use Rattle.table_index.proofs.laws.Owned.{follows_any}
 use borrow.Author.Rules.{rules}
 use Rattle.table_index.proofs.read.next_action.Statement.{statement}
 use Rattle.table_index.proofs.read.next_action.Tie as tie

@@ -1,4 +1,4 @@
-use Rattle.table_index.specs.laws.Entries.{follows_event}
+use Rattle.table_index.proofs.laws.Entries.{follows_event}
 use borrow.Author.Rules.{rules}
 use Rattle.table_index.proofs.read.next_association.Statement.{statement}
 use Rattle.table_index.proofs.read.next_association.Tie as tie

@@ -1,6 +1,6 @@
 -- `eight::ninth` meets its contract. The count of an event in the window tells by `eight_in`, and grows by `counted_in`;
 -- an association of an event that is not in it leaves the counts as they are.
-use Rattle.table_network.specs.laws.Counted.{counted_small, eight_low, counted_low, eight_in, counted_in, eight_high, counted_high}
+use Rattle.table_network.proofs.laws.Counted.{counted_small, eight_low, counted_low, eight_in, counted_in, eight_high, counted_high}
 use native.Mathlib.Omega.{arith}
 use Prim.Native.Nat.{◌-◌}
 use borrow.Author.Rules.{rules}

@@ -1,6 +1,6 @@
 -- `fresh::shared` meets its contract. A key in the window tells by `told_in`, and is added by `marked_in`;
 -- a frame whose key is not in it leaves the set as it is.
-use Rattle.table_network.specs.laws.Alike.{told_low, marked_low, told_in, marked_in, told_high, marked_high}
+use Rattle.table_network.proofs.laws.Alike.{told_low, marked_low, told_in, marked_in, told_high, marked_high}
 use mathlib.Core.Path.{◌∙◌}
 use borrow.Author.Rules.{rules}
 use Rattle.table_network.proofs.fresh.shared.Statement.{statement}

@@ -1,6 +1,6 @@
 -- `pairs::associations_end` meets its contract by `associations_told` and `associations_spanned`.
-use Rattle.table_network.specs.laws.Alike.{keys_few, associations_told, associations_spanned}
-use Rattle.rules_tables.specs.laws.Places.{kind_le}
+use Rattle.table_network.proofs.laws.Alike.{keys_few, associations_told, associations_spanned}
+use Rattle.rules_tables.proofs.laws.Places.{kind_le}
 use lib.ListN.{length}
 use native.Mathlib.Omega.{arith}
 use Prim.Native.Nat.{◌/◌}

@@ -1,6 +1,6 @@
 -- `pairs::data_connections_end` meets its contract by `links_told` and `links_spanned`.
-use Rattle.table_network.specs.laws.Alike.{links_told, links_spanned}
-use Rattle.rules_tables.specs.laws.Places.{kind_le}
+use Rattle.table_network.proofs.laws.Alike.{links_told, links_spanned}
+use Rattle.rules_tables.proofs.laws.Places.{kind_le}
 use lib.ListN.{length}
 use native.Mathlib.Omega.{arith}
 use Prim.Native.Nat.{◌/◌}

@@ -1,6 +1,6 @@
 -- `pairs::event_connections_end` meets its contract by `connections_told` and `connections_spanned`.
-use Rattle.table_network.specs.laws.Alike.{keys_few, connections_told, connections_spanned}
-use Rattle.rules_tables.specs.laws.Places.{kind_le}
+use Rattle.table_network.proofs.laws.Alike.{keys_few, connections_told, connections_spanned}
+use Rattle.rules_tables.proofs.laws.Places.{kind_le}
 use lib.ListN.{length}
 use native.Mathlib.Omega.{arith}
 use Prim.Native.Nat.{◌/◌}

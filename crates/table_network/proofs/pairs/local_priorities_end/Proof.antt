@@ -1,6 +1,6 @@
 -- `pairs::local_priorities_end` meets its contract by `inputs_told` and `inputs_spanned`.
-use Rattle.table_network.specs.laws.Alike.{inputs_told, inputs_spanned}
-use Rattle.rules_tables.specs.laws.Places.{kind_le}
+use Rattle.table_network.proofs.laws.Alike.{inputs_told, inputs_spanned}
+use Rattle.rules_tables.proofs.laws.Places.{kind_le}
 use lib.ListN.{length}
 use native.Mathlib.Omega.{arith}
 use Prim.Native.Nat.{◌/◌}
