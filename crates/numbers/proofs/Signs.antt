@@ -102,7 +102,7 @@ pub ruleset signs = (rules, at64, minus64, sum64, dif64, mul64)
 
 -- a call's result r that was z, as the machine reads it
 pub handed : {r z : ℤ} → mag r < 2147483648 → r ≡ z → to_z w32 (of_z w32 r) ≡ z
-handed k e = to_z-of_z (record { sfits = k }) ∙ e
+handed k e = to_z-of_z {w = w32} (record { sfits = k }) ∙ e
 
 -- ---- what is picked by a test on two `i32`
 module _ {x y a : ℤ} (f : SFits w32 x) (g : SFits w32 y) (h : SFits w32 a) where

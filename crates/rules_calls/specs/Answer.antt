@@ -42,8 +42,8 @@ untrue_of (Ran m b n u) = u
 
 -- ---- the table's verdict first, then the refusal q of the call, 0 for none
 abbrev pub answer_by : Verdict → ℕ → Answer → Answer
-answer_by accepted q done = pick (eqb q 0) done (Refused q 0)
-answer_by (refused p f) q done = Refused p f
+answer_by accepted q answer = pick (eqb q 0) answer (Refused q 0)
+answer_by (refused p f) q answer = Refused p f
 
 -- a list (store or output) after the call: as it came, unless nothing refuses
 abbrev pub kept_by : Verdict → ℕ → List ℕ → List ℕ → List ℕ
