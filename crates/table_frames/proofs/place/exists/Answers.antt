@@ -1,0 +1,6 @@
+-- `exists` meets its contract by that of `count`.
+use borrow.Author.Rules.{rules}
+use Rattle.table_frames.proofs.place.exists.Goals as goal
+
+pub returns : goal.returns
+returns c = rw (← c.count.ensures)
