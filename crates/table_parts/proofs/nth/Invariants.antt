@@ -1,0 +1,19 @@
+use Rattle.rules_tables.specs.Owned.{belongs, is_nth}
+use Rattle.table_parts.specs.Found.{found_of}
+use Rattle.rules_walks.specs.Count.{count_if}
+use Rattle.rules_walks.proofs.laws.Count.{count_none, count_hit, count_miss}
+use Rattle.rules_walks.specs.First.{first_from, first_below}
+use Rattle.rules_walks.proofs.laws.First.{first_start, first_skip, first_hit, first_none}
+use borrow.Author.Rules.{rules}
+use borrow.Author.Tests.{eq-eqb, ne_eqb}
+use mathlib.Core.Logic.{⊎_elim}
+use mathlib.Core.Path.{◌≡◌, sym, ap, ◌∙◌}
+use native.Mathlib.Omega.{arith}
+use Prim.Native.Nat.{ℕ, ◌≤◌, ◌<◌, ◌-◌, ◌+◌}
+use Rattle.table_parts.proofs.nth.Given as goal
+
+abbrev pub invariant-loop-j : goal.invariant-loop-j
+invariant-loop-j l = (l.j ≤ l.n) × (l.c ≡ count_if (belongs l.t l.first l.g l.x) l.j) × (first_below (is_nth l.t l.first l.g l.x l.k) l.n ≡ first_from (is_nth l.t l.first l.g l.x l.k) l.j (l.n - l.j)) × (l.c ≤ l.j)
+
+abbrev pub decreases-loop-j : goal.decreases-loop-j
+decreases-loop-j l = l.n - l.j

@@ -1,0 +1,15 @@
+use Rattle.rules_tables.specs.Owned.{belongs}
+use Rattle.rules_walks.specs.Count.{count_if}
+use Rattle.rules_walks.proofs.laws.Count.{count_none, count_hit, count_miss}
+use borrow.Author.Rules.{rules}
+use mathlib.Core.Logic.{⊎_elim}
+use mathlib.Core.Path.{◌≡◌, sym, ap, ◌∙◌}
+use native.Mathlib.Omega.{arith}
+use Prim.Native.Nat.{ℕ, ◌≤◌, ◌-◌, ◌+◌}
+use Rattle.table_parts.proofs.rank.Given as goal
+
+abbrev pub invariant-loop-i : goal.invariant-loop-i
+invariant-loop-i l = (l.i ≤ l.j) × (l.c ≡ count_if (belongs l.t l.first l.g l.x) l.i) × (l.c ≤ l.i)
+
+abbrev pub decreases-loop-i : goal.decreases-loop-i
+decreases-loop-i l = l.j - l.i
