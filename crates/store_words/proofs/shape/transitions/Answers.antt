@@ -1,0 +1,8 @@
+-- `transitions` meets its contract by that of `less`.
+use borrow.Author.Rules.{rules}
+use Rattle.rules_tables.specs.Ids.{transitions}
+use Rattle.store_words.proofs.shape.transitions.Goals as goal
+
+pub returns : goal.returns
+unfolding transitions
+returns c = c.less.ensures

@@ -1,0 +1,14 @@
+-- `waits` meets its contract: the words of an event input lie within the need, so the place is in the store.
+use borrow.Author.Rules.{rules}
+use Rattle.rules_store.specs.Layout.{need, input_at}
+use Rattle.rules_store.specs.Word.{waiting}
+use native.Mathlib.Omega.{arith}
+use Rattle.store_words.proofs.word.waits.Goals as goal
+
+pub bounds-store-at : goal.bounds-store-at
+unfolding need input_at
+bounds-store-at c = omega (arith, c.input_at-at.ensures.is)
+
+pub returns : goal.returns
+unfolding waiting
+returns c = rw c.input_at-at.ensures.is

@@ -1,0 +1,76 @@
+-- `eight::window_end` meets its contract. The loop's invariant: the associations below f are counted by their events (`Counted`),
+-- and every frame below f keeps the rule in this window.
+use Rattle.rules_walks.specs.All.{all_to}
+use Rattle.rules_walks.proofs.laws.All.{all_more}
+use Rattle.rules_walks.proofs.laws.Held.{held_stop}
+use Rattle.rules_tables.specs.Fresh.{eight_at_most}
+use Rattle.table_network.specs.Counted.{Counted}
+use Rattle.table_network.specs.Keys.{slot_of, slotted}
+use Rattle.table_network.specs.Known.{Stretch}
+use Rattle.table_network.specs.Windows.{in_window}
+use Rattle.table_network.proofs.laws.Counted.{counted_from, eight_window_other, slotted_other}
+use Rattle.table_network.proofs.laws.Known.{stretch, stretch_start, stretch_end}
+use borrow.Author.Tests.{not-true, not-false}
+use lib.ListN.{length}
+use mathlib.Core.Bool.{true}
+use mathlib.Core.Path.{◌≡◌, refl, sym, ◌∙◌}
+use native.Mathlib.Omega.{arith}
+use Prim.Native.Nat.{◌≤◌, ◌-◌}
+use borrow.Author.Rules.{rules}
+use Rattle.table_network.proofs.eight.window_end.Goals as goal
+
+pub start-hi-requires : goal.start-hi-requires
+start-hi-requires c = (c.requires.0.size, omega arith)
+
+pub start-f-requires : goal.start-f-requires
+start-f-requires c = (c.requires.0.size, omega arith)
+
+pub loop-f-init : goal.loop-f-init
+loop-f-init c = let a = c.args in
+    let p = c.requires in
+    let T = a.t.now in
+    let w = stretch T _ 5 a.n _ _ (omega arith) p.0 c.start-f.ensures.0 c.start-hi.ensures.0 in (
+      w,
+      omega arith,
+      w.rise,
+      refl,
+      counted_from (slotted T a.inputs a.b) _ _ c.clear.ensures.1 (λ i g l. slotted_other T a.inputs a.b g (w.before g l) i),
+      stretch_start T _ 5 a.n _ _ (eight_window_other T a.inputs a.b _) w,
+    )
+
+pub ninth-requires : goal.ninth-requires
+ninth-requires c = let l = c.loop-f in
+    let w = l.invariant.0 in
+    let p = c.requires in (
+      p.0.within,
+      p.1,
+      (let h = w.within in omega arith),
+      w.inside l.f l.invariant.1 c.loop-f-test.true,
+      p.2,
+      p.3,
+      l.invariant.4,
+    )
+
+pub returns-then-ninth : goal.returns-then-ninth
+returns-then-ninth c = let l = c.loop-f in
+    let h = l.invariant.0.within in
+    let q = rw (l.invariant.3, c.clear.ensures.0) at c.ninth.ensures.0 in
+    (held_stop _ _ l.f (omega arith) (rw c.clear.ensures.0 at l.invariant.5) (not-true _ (sym q ∙ c.if-ninth.true)), omega arith)
+
+pub loop-f-preserved : goal.loop-f-preserved
+loop-f-preserved c = let l = c.loop-f in
+    let q = rw l.invariant.3 at c.ninth.ensures.0 in (
+      l.invariant.0,
+      omega arith,
+      search rules,
+      search rules,
+      c.ninth.ensures.1,
+      all_more _ l.f l.invariant.5 (not-false _ (sym q ∙ c.if-ninth.false)),
+    )
+
+pub returns : goal.returns
+returns c = let a = c.args in
+    let l = c.loop-f in
+    let e : l.f ≡ c.start-hi.result = omega arith in
+    let s = stretch_end a.t.now _ 5 a.n _ _ (eight_window_other a.t.now a.inputs a.b _) l.invariant.0 (rw (e, c.clear.ensures.0) at l.invariant.5) in
+    (s, omega arith)

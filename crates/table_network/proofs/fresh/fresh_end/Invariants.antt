@@ -1,0 +1,20 @@
+use Rattle.rules_walks.specs.Held.{held_to}
+use Rattle.rules_tables.specs.Fresh.{fresh}
+use Rattle.table_network.specs.Keys.{key_at}
+use Rattle.table_network.specs.Windows.{under_key}
+use Rattle.table_network.proofs.laws.Alike.{telling_less, fresh_past}
+use Rattle.table_network.proofs.laws.Known.{stretches_less}
+use Rattle.table_network.proofs.laws.Windows.{windows_none, windows_more, windows_all}
+use lib.ListN.{length}
+use lib.Seq.{length-take-le}
+use mathlib.Core.Path.{◌≡◌, refl, sym}
+use native.Mathlib.Omega.{arith}
+use Prim.Native.Nat.{◌≤◌, ◌-◌, ◌+◌}
+use borrow.Author.Rules.{rules}
+use Rattle.table_network.proofs.fresh.fresh_end.Given as goal
+
+abbrev pub invariant-loop-b : goal.invariant-loop-b
+invariant-loop-b l = (l.b ≤ l.keys + 65536) × (length l.set ≡ length l.initial.set) × (l.e ≤ l.n) × (l.e ≡ held_to (under_key (fresh l.k l.t) (key_at l.k l.t l.ys) l.b) l.n)
+
+abbrev pub decreases-loop-b : goal.decreases-loop-b
+decreases-loop-b l = l.keys - l.b
