@@ -1,0 +1,29 @@
+-- src/index.rt:51:9
+-- src/index.rt:47:5
+-- src/index.rt:60:9
+-- src/index.rt:56:5
+-- src/index.rt:69:9
+-- src/index.rt:65:5
+-- src/index.rt:43:1
+-- src/index.rt:43:1
+use mathlib.Core.Path.{◌∙◌}
+use Rattle.table_index.proofs.laws.Making.{ask_associations, ask_connections, ask_links, events_done}
+use borrow.Author.Rules.{rules}
+use Rattle.table_index.proofs.index.index_events.Reads as reads
+use Rattle.store_words.proofs.shape.associations.Reads as associations_reads
+use Rattle.store_words.proofs.shape.connections.Reads as connections_reads
+use Rattle.store_words.proofs.shape.links.Reads as links_reads
+use Rattle.table_index.proofs.chain.chain.Reads as chain_reads
+use Rattle.table_index.proofs.index.index_events.Goals as goal
+
+pub chain-requires : goal.chain-requires
+chain-requires c = ask_associations _ _ c.requires.0 c.requires.1 c.requires.2 c.associations.ensures
+
+pub chain-requires-2 : goal.chain-requires-2
+chain-requires-2 c = ask_connections _ _ c.requires.0 c.requires.1 (c.chain.ensures.1.long ∙ c.requires.2) c.connections.ensures
+
+pub chain-requires-3 : goal.chain-requires-3
+chain-requires-3 c = ask_links _ _ c.requires.0 c.requires.1 (c.chain-2.ensures.1.long ∙ c.chain.ensures.1.long ∙ c.requires.2) c.links.ensures
+
+pub returns : goal.returns
+returns c = events_done _ _ c.requires.0 c.requires.2 c.associations.ensures c.connections.ensures c.links.ensures c.chain.ensures.0 c.chain.ensures.1 c.chain-2.ensures.0 c.chain-2.ensures.1 c.chain-3.ensures.0 c.chain-3.ensures.1
