@@ -1,0 +1,34 @@
+-- src/carry.rt:52:22
+-- src/carry.rt:52:9
+-- src/carry.rt:54:9
+-- src/carry.rt:56:25
+-- src/carry.rt:56:20
+-- src/carry.rt:57:9
+-- src/carry.rt:57:9
+-- src/carry.rt:48:1
+use Rattle.rules_moves.specs.Partner.{partner_variable}
+use Rattle.rules_moves.specs.Carry.{carried_by}
+use Rattle.table_parts.proofs.laws.Found.{found_one, found_missing}
+use borrow.Author.Tests.{eq-eqb, ne_eqb}
+use native.Mathlib.Omega.{arith}
+use borrow.Author.Rules.{rules}
+use Rattle.moves_fire.proofs.carry.carried_by.Reads as reads
+use Rattle.moves_fire.proofs.partner.partner_variable.Reads as partner_variable_reads
+use Rattle.store_words.proofs.shape.association_frame.Reads as association_frame_reads
+use Rattle.table_frames.proofs.frame.field.Reads as field_reads
+use Rattle.moves_fire.proofs.carry.carried_by.Goals as goal
+
+pub returns-then-w-eq-OF_OUTPUT : goal.returns-then-w-eq-OF_OUTPUT
+unfolding carried_by
+returns-then-w-eq-OF_OUTPUT c = rw (c.requires.3, eq-eqb _ _ c.if-w-eq-OF_OUTPUT.true) (rw c.association_frame.ensures.is at c.field-v.ensures.0)
+
+pub partner_variable-requires : goal.partner_variable-requires
+partner_variable-requires c = (c.requires.1, omega (arith, rw c.association_frame.ensures.is at c.field-v.ensures.0, c.requires.0.association_variable c.args.j c.requires.2))
+
+pub returns-in_default : goal.returns-in_default
+unfolding carried_by
+returns-in_default c = rw (c.requires.3, ne_eqb _ _ c.if-w-eq-OF_OUTPUT.false, ← c.association_frame.ensures.is, ← c.field-v.ensures.0) (rw (found_missing (partner_variable c.args.t.now c.args.shape c.field-v.result) _ c.partner_variable.ensures c.in_default.is))
+
+pub returns : goal.returns
+unfolding carried_by
+returns c = rw (c.requires.3, ne_eqb _ _ c.if-w-eq-OF_OUTPUT.false, ← c.association_frame.ensures.is, ← c.field-v.ensures.0) (rw (found_one (partner_variable c.args.t.now c.args.shape c.field-v.result) _ _ c.partner_variable.ensures c.in-One.is))

@@ -1,0 +1,12 @@
+-- `fire_by` meets its contract: the connections, then the copies by the voice that it is given.
+use Rattle.moves_fire.proofs.laws.Carrying.{voice_flag}
+use Rattle.rules_moves.specs.Fire.{fire}
+use borrow.Author.Rules.{rules}
+use Rattle.moves_fire.proofs.fire_by.Goals as goal
+
+pub copy_all-requires : goal.copy_all-requires
+copy_all-requires c = (c.requires.0, c.requires.1, rw c.requires.2 (voice_flag _ _ _))
+
+pub returns : goal.returns
+unfolding fire
+returns c = rw (c.copy_all.ensures, c.connect_all.ensures, c.requires.2)

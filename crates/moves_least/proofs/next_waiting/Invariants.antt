@@ -1,0 +1,14 @@
+use borrow.Author.Rules.{rules}
+use Rattle.moves_least.specs.Waits.{waits_at}
+use Rattle.moves_least.proofs.Turns.{skipped_more}
+use mathlib.Core.Bool.{false}
+use mathlib.Core.Path.{◌≡◌, sym, ◌∙◌}
+use Prim.Native.Nat.{ℕ, ◌≤◌, ◌<◌, ◌-◌}
+use native.Mathlib.Omega.{arith}
+use Rattle.moves_least.proofs.next_waiting.Given as goal
+
+abbrev pub invariant-loop-k : goal.invariant-loop-k
+invariant-loop-k l = ((j : ℕ) → l.i ≤ j → j < l.k → waits_at l.shape l.store j ≡ false) × (l.i ≤ l.k) × (l.k ≤ l.n)
+
+abbrev pub decreases-loop-k : goal.decreases-loop-k
+decreases-loop-k l = l.n - l.k
