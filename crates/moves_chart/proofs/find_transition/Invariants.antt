@@ -1,0 +1,11 @@
+use borrow.Author.Rules.{rules}
+use native.Mathlib.Omega.{arith}
+use Prim.Native.Nat.{◌-◌}
+use Rattle.moves_chart.proofs.Turns.{Searching, search_begins, search_goes_on, search_nearer, search_hits, search_ends}
+use Rattle.moves_chart.proofs.find_transition.Given as goal
+
+abbrev pub invariant-loop-j : goal.invariant-loop-j
+invariant-loop-j l = Searching l.t l.shape l.store l.q l.event l.live l.j
+
+abbrev pub decreases-loop-j : goal.decreases-loop-j
+decreases-loop-j l = l.n - l.j

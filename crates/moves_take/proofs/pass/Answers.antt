@@ -1,0 +1,28 @@
+-- src/lib.rt:82:25
+-- src/lib.rt:82:20
+-- src/lib.rt:83:9
+-- src/lib.rt:83:9
+-- src/lib.rt:85:5
+-- src/lib.rt:78:1
+-- src/lib.rt:78:1
+use Rattle.moves_take.proofs.Turns.{pass_none, pass_one, partner_in}
+use Rattle.store_words.proofs.laws.Small.{small}
+use mathlib.Core.Path.{refl}
+use native.Mathlib.Omega.{arith}
+use borrow.Author.Rules.{rules}
+use Rattle.moves_take.proofs.pass.Reads as reads
+use Rattle.moves_fire.proofs.partner.partner_variable.Reads as partner_variable_reads
+use Rattle.store_words.proofs.word.put_value.Reads as put_value_reads
+use Rattle.moves_take.proofs.pass.Goals as goal
+
+pub partner_variable-requires : goal.partner_variable-requires
+partner_variable-requires c = (c.requires.3, c.requires.1)
+
+pub returns-in_default : goal.returns-in_default
+returns-in_default c = pass_none _ _ _ _ _ c.partner_variable.ensures c.in_default.is refl
+
+pub put_value-requires : goal.put_value-requires
+put_value-requires c = let h = partner_in _ _ _ _ c.partner_variable.ensures c.in-One.is in let k = c.requires.0.few_variables in (small _ _ c.requires.0, omega arith)
+
+pub returns : goal.returns
+returns c = pass_one _ _ _ _ _ _ c.partner_variable.ensures c.in-One.is c.requires.2 c.put_value.ensures

@@ -1,0 +1,27 @@
+use Rattle.moves_take.proofs.Turns.{passed_end, pass_idle, voiced}
+use Rattle.table_index.proofs.laws.Leads.{leads_start, leads_more}
+use Rattle.rules_moves.specs.Take.{sample, pass}
+use mathlib.Core.List.{List}
+use Prim.Native.Nat.{ℕ}
+use Rattle.rules_tables.specs.Ids.{first_association, associations}
+use Rattle.rules_tables.specs.Owned.{belongs}
+use Rattle.rules_tables.specs.Kind.{of_input}
+use Rattle.rules_walks.specs.Walk.{up_to}
+use Prim.Native.Nat.{◌≤◌, ◌<◌, ◌-◌}
+use mathlib.Core.Bool.{true}
+use lib.ListN.{length}
+use mathlib.Core.Path.{◌≡◌, refl}
+use borrow.Author.Rules.{rules}
+use native.Mathlib.Omega.{arith}
+use Rattle.moves_take.proofs.pass_all.Reads as reads
+use Rattle.moves_take.proofs.pass_on.Reads as pass_on_reads
+use Rattle.store_words.proofs.shape.associations.Reads as associations_reads
+use Rattle.table_index.proofs.read.first_association.Reads as first_association_reads
+use Rattle.table_index.proofs.read.next_association.Reads as next_association_reads
+use Rattle.moves_take.proofs.pass_all.Given as goal
+
+abbrev pub invariant-loop-j : goal.invariant-loop-j
+invariant-loop-j l = (l.j ≤ associations l.shape) × (l.store ≡ up_to (λ (k : ℕ) (x : List ℕ). pass l.t l.shape l.i k (sample l.t l.shape l.i k x)) l.j l.initial.store) × (length l.store ≡ length l.initial.store) × (l.j < associations l.shape → belongs l.t (first_association l.shape) of_input l.i l.j ≡ true)
+
+abbrev pub decreases-loop-j : goal.decreases-loop-j
+decreases-loop-j l = associations l.shape - l.j
