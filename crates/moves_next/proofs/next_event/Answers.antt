@@ -1,0 +1,10 @@
+-- `next_event` meets its contract: what was found decides.
+use borrow.Author.Rules.{rules}
+use Rattle.moves_next.proofs.Turns.{event_one, event_missing}
+use Rattle.moves_next.proofs.next_event.Goals as goal
+
+pub returns-in_default : goal.returns-in_default
+returns-in_default c = event_missing _ c.least-best.ensures c.in_default.is
+
+pub returns : goal.returns
+returns c = event_one _ c.least-best.ensures _ _ c.in-At.is

@@ -1,0 +1,6 @@
+-- `step_entry` meets its contract.
+use borrow.Author.Rules.{rules}
+use Rattle.moves_tell.proofs.act.step_entry.Goals as goal
+
+pub returns : goal.returns
+returns c = rw (c.running-r.ensures, c.element_of.ensures.is)

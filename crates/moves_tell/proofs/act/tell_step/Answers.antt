@@ -1,0 +1,15 @@
+-- `tell_step` meets its contract: the step's own frame names the variable, and what its operation gives is what is told.
+use mathlib.Core.Path.{sym}
+use Rattle.moves_tell.proofs.laws.Told.{told_same, room_same}
+use Rattle.moves_tell.proofs.Telling.{step_is, step_in}
+use borrow.Author.Rules.{rules}
+use Rattle.moves_tell.proofs.act.tell_step.Goals as goal
+
+pub tell_result-requires : goal.tell_result-requires
+tell_result-requires c =
+    let f = c.step_frame-f.ensures.is in
+    let v = c.field-v.ensures.0 in
+    (c.requires.0, step_in _ _ _ f v c.requires.0 c.requires.1, room_same (sym (step_is _ _ _ _ _ f v c.result_of-x.ensures)) c.requires.3)
+
+pub returns : goal.returns
+returns c = told_same (step_is _ _ _ _ _ c.step_frame-f.ensures.is c.field-v.ensures.0 c.result_of-x.ensures) c.tell_result.ensures

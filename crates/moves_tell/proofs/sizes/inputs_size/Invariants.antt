@@ -1,0 +1,20 @@
+use native.Mathlib.Omega.{arith}
+use Prim.Native.Nat.{◌*◌, ◌≤◌, ◌<◌, ◌-◌}
+use mathlib.Core.Bool.{true}
+use mathlib.Core.Path.{◌≡◌, ap}
+use Rattle.rules_tables.specs.Kind.{input}
+use Rattle.rules_tables.specs.Ids.{first_variable, variables}
+use Rattle.rules_tables.specs.Owned.{belongs}
+use Rattle.rules_traces.specs.Gather.{gather}
+use Rattle.moves_tell.specs.Before.{sampled_entry}
+use Rattle.moves_tell.specs.Told.{Sized}
+use Rattle.moves_tell.proofs.laws.Sized.{sized_same, sized_first, sized_next}
+use Rattle.moves_tell.proofs.laws.Partners.{not_sampled}
+use borrow.Author.Rules.{rules}
+use Rattle.moves_tell.proofs.sizes.inputs_size.Given as goal
+
+abbrev pub invariant-loop-v : goal.invariant-loop-v
+invariant-loop-v l = (l.v ≤ variables l.shape) × Sized (gather (sampled_entry l.t l.shape l.i l.store) l.v) l.z × (l.z ≤ 12 * l.v) × (l.v < variables l.shape → belongs l.t (first_variable l.shape) input l.el l.v ≡ true)
+
+abbrev pub decreases-loop-v : goal.decreases-loop-v
+decreases-loop-v l = variables l.shape - l.v
