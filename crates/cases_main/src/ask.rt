@@ -156,7 +156,7 @@ fn outcome_on(t: &[u8], row: Row) -> Six
     requires { Fits row }
 {
     let mut store = [7u32; 41];
-    let mut out = io::buffer();
+    let mut out = [0u8; 4096];
     let words = row.2;
     let room = row.3;
     let answer = make_all(

@@ -8,12 +8,12 @@ ghost use Rattle.std.specs.Prelude.{◌≤◌, ◌≡◌, length};
 pub mod asked;
 
 use crate::asked::{Asked, line_asks, opened};
-use libc::{STDIN_FILENO, STDOUT_FILENO};
 use lines::part::stretch;
 use session_dialogue::feeding::feed;
 use session_dialogue::session::Session;
 use session_trace::copy::copy_words;
 use session_trace::piece::{goes_on, put_store, show_piece, trace_piece};
+use std::io::Read;
 
 // What is wished of a run.
 #[derive(Clone, Copy)]
@@ -45,16 +45,12 @@ struct Got {
 }
 
 // The empty line after a trace. Answers how many runs are to come: always another, unless a write fails.
-fn trace_end() -> usize {
-    if io::write_all(STDOUT_FILENO, b"\n") {
-        1
-    } else {
-        0
-    }
+fn trace_end(rt: &impl Print) -> usize {
+    if rt.write_all(b"\n").is_ok() { 1 } else { 0 }
 }
 
 // Makes a run piece by piece and writes the lines of each, then an empty line. Answers how many runs are to come.
-fn trace_run(t: &[u8], store: &mut [u32], budget: u32, text: &mut [u8]) -> usize
+fn trace_run(rt: &impl Print, t: &[u8], store: &mut [u32], budget: u32, text: &mut [u8]) -> usize
     requires { 10000 ≤ length text.old }
 {
     let mut out = [0u8; OUTPUT];
@@ -63,13 +59,13 @@ fn trace_run(t: &[u8], store: &mut [u32], budget: u32, text: &mut [u8]) -> usize
     let mut from = 0;
     loop {
         let p = trace_piece(t, store, left, &mut out[from..], &mut trace, text);
-        if !io::write_all(STDOUT_FILENO, stretch(text, p.at)) {
+        if rt.write_all(stretch(text, p.at)).is_err() {
             return 0;
         }
         let traced = p.traced;
         let a = traced.answer;
         if !goes_on(a) {
-            return trace_end();
+            return trace_end(rt);
         }
         left -= a.moves();
         from += a.bytes();
@@ -118,6 +114,7 @@ fn show_run(
 
 // The run that is wished for: what it shows is written. The session ends with it, so its own store is the one that shows: first it is as the run finds it.
 fn show_last(
+    rt: &impl Print,
     t: &[u8],
     store: &mut [u32],
     copy: &mut [u32],
@@ -130,12 +127,13 @@ fn show_last(
     copy_words(copy, store);
     let seen = show_run(t, copy, budget, text, store, frames);
     let at = put_store(t, store, seen, text);
-    io::write_all(STDOUT_FILENO, stretch(text, at));
+    let _ = rt.write_all(stretch(text, at));
 }
 
 // A run from the copy of the store. Answers how many are then to come. A trace leaves the store as it is, and the session goes on with it; of the runs to show,
 // those before the last are passed by.
 fn watch_run(
+    rt: &impl Print,
     t: &[u8],
     store: &mut [u32],
     copy: &mut [u32],
@@ -147,12 +145,12 @@ fn watch_run(
     requires { (length store.old ≡ length copy.old) × (32988 ≤ length text.old) }
 {
     match wish {
-        Wish::Trace => trace_run(t, copy, budget, text),
+        Wish::Trace => trace_run(rt, t, copy, budget, text),
         Wish::Show(frames) => {
             if runs > 1 {
                 return runs - 1;
             }
-            show_last(t, store, copy, budget, text, frames);
+            show_last(rt, t, store, copy, budget, text, frames);
             0
         }
     }
@@ -160,6 +158,7 @@ fn watch_run(
 
 // A byte before the session takes it: where it ends a line, the line is watched. Answers how many runs are then to come.
 fn watch_byte(
+    rt: &impl Print,
     table: &[u8],
     store: &mut [u32],
     copy: &mut [u32],
@@ -182,6 +181,7 @@ fn watch_byte(
         return s.runs;
     };
     watch_run(
+        rt,
         stretch(table, here.end),
         store,
         copy,
@@ -194,6 +194,7 @@ fn watch_byte(
 
 // One byte of the input, and what it ends.
 fn take_byte(
+    rt: &impl Print,
     table: &mut [u8],
     store: &mut [u32],
     copy: &mut [u32],
@@ -207,7 +208,7 @@ fn take_byte(
     requires { (s.session.at ≡ 0) × (length store.old ≡ length copy.old) × (length byte.now ≡ 1) × (32988 ≤ length text.old) }
     ensures { result.session.at ≡ 0 }
 {
-    let runs = watch_byte(table, store, copy, line, byte[0], text, wish, s);
+    let runs = watch_byte(rt, table, store, copy, line, byte[0], text, wish, s);
     let fed = feed(table, store, values, line, byte, text, s.session);
     Sought {
         session: fed.session.written(),
@@ -225,6 +226,7 @@ fn seeks(s: Sought) -> bool {
 
 // The bytes that were read, one by one.
 fn take_all(
+    rt: &impl Print,
     table: &mut [u8],
     store: &mut [u32],
     copy: &mut [u32],
@@ -243,7 +245,7 @@ fn take_all(
     let mut i = 0;
     while i < n && seeks(s) {
         let byte = &input[i..i + 1];
-        s = take_byte(table, store, copy, values, line, byte, text, wish, s);
+        s = take_byte(rt, table, store, copy, values, line, byte, text, wish, s);
         i += 1;
     }
     s
@@ -272,25 +274,25 @@ fn put_end(input: &mut [u8]) -> usize {
 }
 
 // Reads once. The input ends where nothing comes, and where a read fails.
-fn read_some(input: &mut [u8]) -> Got {
-    let got = libc::read(STDIN_FILENO, input);
-    if got < 0 {
+fn read_some<R: Read>(from: &mut R, input: &mut [u8]) -> Got {
+    let Ok(bytes) = from.read(input) else {
         return Got {
             bytes: 0,
             last: true,
         };
-    }
-    if got == 0 {
+    };
+    if bytes == 0 {
         let bytes = put_end(input);
         return Got { bytes, last: true };
     }
-    let bytes = io::count(got, input);
     Got { bytes, last: false }
 }
 
 // Reads until no run is to come or the session stops. A proved loop has to end, and nothing says that the input does: so it counts its turns down, from a number
 // that no run uses up.
-fn read_all(
+fn read_all<R: Read>(
+    rt: &impl Print,
+    from: &mut R,
     table: &mut [u8],
     store: &mut [u32],
     copy: &mut [u32],
@@ -309,16 +311,16 @@ fn read_all(
     };
     let mut turns = u64::MAX;
     while turns > 0 && seeks(s) {
-        let got = read_some(input);
+        let got = read_some(from, input);
         let piece = stretch(input, got.bytes);
-        let taken = take_all(table, store, copy, values, line, piece, text, wish, s);
+        let taken = take_all(rt, table, store, copy, values, line, piece, text, wish, s);
         s = ended(taken, got.last);
         turns -= 1;
     }
 }
 
 // Watches the session on standard input for so many runs.
-pub fn watch_session(wish: Wish, runs: usize) {
+pub fn watch_session(rt: &(impl Input + Print), wish: Wish, runs: usize) {
     // One frame more than a table may have, so that a longer one is refused by its length.
     let mut table = [0u8; 49164];
     let mut store = [0u32; 2000];
@@ -330,7 +332,10 @@ pub fn watch_session(wish: Wish, runs: usize) {
     let mut input = [0u8; 65536];
     // Room for the lines of a piece, for what the session prints of a line, and for what a store shows.
     let mut text = [0u8; 65536];
+    let mut from = rt.reader();
     read_all(
+        rt,
+        &mut from,
         &mut table,
         &mut store,
         &mut copy,

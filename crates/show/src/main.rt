@@ -3,43 +3,54 @@
 // shows (`session_watch`). More frames than there are show the last.
 #![tactic(auto)]
 
-use libc::STDERR_FILENO;
 use session_trace::number::{Number, number_in};
 use session_watch::{Wish, watch_session};
+use std::env::{Env, FillError};
 
-// The number that argument i writes.
-fn argument(i: usize) -> Number {
+// The number that argument i writes; a longer one than the buffer is not a number.
+fn argument(rt: &impl Env, i: usize) -> Number {
     let mut word = [0u8; 32];
-    let n = os::arg(i, &mut word);
+    let Ok(n) = rt.arg(i, &mut word) else {
+        return Number::Wrong;
+    };
     number_in(&word[..n])
 }
 
+// There is an argument i, however long.
+fn has_argument(rt: &impl Env, i: usize) -> bool {
+    let mut word = [0u8; 32];
+    match rt.arg(i, &mut word) {
+        Ok(_) => true,
+        Err(FillError::TooLong) => true,
+        Err(FillError::NotPresent) => false,
+    }
+}
+
 // What is wrong with the arguments.
-fn refuse() {
-    io::write_all(
-        STDERR_FILENO,
-        b"show: usage: show RUN FRAMES: the run from 1, each 1 to 18 decimal digits; the session is read from standard input\n",
+fn refuse(rt: &impl Eprint) {
+    let _ = rt.eprintln(
+        "show: usage: show RUN FRAMES: the run from 1, each 1 to 18 decimal digits; the session is read from standard input",
     );
 }
 
-fn main() {
-    if os::arg_count() != 3 {
-        refuse();
+fn main(rt: HostRuntime) {
+    if !has_argument(&rt, 2) || has_argument(&rt, 3) {
+        refuse(&rt);
         return;
     }
-    let run = argument(1);
+    let run = argument(&rt, 1);
     let Number::Is(first) = run else {
-        refuse();
+        refuse(&rt);
         return;
     };
     if first == 0 {
-        refuse();
+        refuse(&rt);
         return;
     }
-    let frames = argument(2);
+    let frames = argument(&rt, 2);
     let Number::Is(most) = frames else {
-        refuse();
+        refuse(&rt);
         return;
     };
-    watch_session(Wish::Show(most), first);
+    watch_session(&rt, Wish::Show(most), first);
 }

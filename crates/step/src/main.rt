@@ -6,11 +6,11 @@ ghost use Rattle.std.specs.Prelude.{ℕ, ◌+◌, ◌≤◌, ◌≡◌, true, Li
 ghost use Rattle.rules_sessions.specs.Reading.{Reading, after_bytes};
 ghost use Rattle.session_dialogue.specs.Standing.{KeepsUp};
 
-use libc::{STDIN_FILENO, STDOUT_FILENO};
 use lines::part::stretch;
 use session_dialogue::feeding::{END_ROOM, feed, finish};
 use session_dialogue::part::rest;
 use session_dialogue::session::Session;
+use std::io::Read;
 
 // A session, and whether the text was written where it had to be.
 #[derive(Clone, Copy)]
@@ -20,10 +20,10 @@ struct Taken {
 }
 
 // Writes the text that waits.
-fn flush(text: &[u8], s: Session) -> Taken
+fn flush(rt: &impl Print, text: &[u8], s: Session) -> Taken
     ensures { (result.session.phase ≡ s.phase) × (result.session.end ≡ s.end) × (result.session.length ≡ s.length) × (result.session.at ≡ 0) }
 {
-    let ok = io::write_all(STDOUT_FILENO, stretch(text, s.at));
+    let ok = rt.write_all(stretch(text, s.at)).is_ok();
     Taken {
         session: s.written(),
         ok: ok,
@@ -31,13 +31,13 @@ fn flush(text: &[u8], s: Session) -> Taken
 }
 
 // Room for what the next byte or the end of the input may print.
-fn make_room(text: &[u8], s: Session) -> Taken
+fn make_room(rt: &impl Print, text: &[u8], s: Session) -> Taken
     requires { (s.at ≤ length text.now) × (12363 ≤ length text.now) }
     ensures { (result.session.at + 12363 ≤ length text.now)
         × ((rd : Reading) (t st W line : List ℕ) → KeepsUp rd s t st W line text.now → KeepsUp rd result.session t st W line text.now) }
 {
     if text.len() - s.at < END_ROOM {
-        return flush(text, s);
+        return flush(rt, text, s);
     }
     Taken {
         session: s,
@@ -47,6 +47,7 @@ fn make_room(text: &[u8], s: Session) -> Taken
 
 // The bytes that were read, each once: as many as the text has room for, then the text is written, and so on. A write that fails ends it.
 fn take_all(
+    rt: &impl Print,
     table: &mut [u8],
     store: &mut [u32],
     values: &mut [u32],
@@ -67,7 +68,7 @@ fn take_all(
     while from < n && ok {
         let fed = feed(table, store, values, line, rest(input, from), text, s);
         from += fed.taken;
-        let room = make_room(text, fed.session);
+        let room = make_room(rt, text, fed.session);
         s = room.session;
         ok = room.ok;
     }
@@ -87,6 +88,7 @@ fn settled(taken: Taken) -> Session
 
 // The end of the input.
 fn take_last(
+    rt: &impl Print,
     table: &mut [u8],
     store: &mut [u32],
     values: &mut [u32],
@@ -98,12 +100,14 @@ fn take_last(
     ensures { result.at + 12363 ≤ length text.old }
 {
     let r = finish(table, store, values, line, text, s);
-    let room = make_room(text, r);
+    let room = make_room(rt, text, r);
     room.session.ended()
 }
 
 // Reads once and takes what came. The session stops where the input ends, and where a read fails.
-fn read_some(
+fn read_some<R: Read>(
+    rt: &impl Print,
+    from: &mut R,
     table: &mut [u8],
     store: &mut [u32],
     values: &mut [u32],
@@ -115,19 +119,19 @@ fn read_some(
     requires { s.at + 12363 ≤ length text.old }
     ensures { result.at + 12363 ≤ length text.old }
 {
-    let got = libc::read(STDIN_FILENO, input);
-    if got < 0 {
+    let Ok(n) = from.read(input) else {
         return s.ended();
+    };
+    if n == 0 {
+        return take_last(rt, table, store, values, line, text, s);
     }
-    if got == 0 {
-        return take_last(table, store, values, line, text, s);
-    }
-    let n = io::count(got, input);
-    settled(take_all(table, store, values, line, stretch(input, n), text, s))
+    settled(take_all(rt, table, store, values, line, stretch(input, n), text, s))
 }
 
 // Reads until the session stops. A proved loop has to end, and nothing says that the input does: so it counts its turns down, from a number that no run uses up.
-fn read_all(
+fn read_all<R: Read>(
+    rt: &impl Print,
+    from: &mut R,
     table: &mut [u8],
     store: &mut [u32],
     values: &mut [u32],
@@ -140,13 +144,13 @@ fn read_all(
     let mut s = Session::new();
     let mut turns = u64::MAX;
     while turns > 0 && !s.stopped() {
-        s = read_some(table, store, values, line, input, text, s);
+        s = read_some(rt, from, table, store, values, line, input, text, s);
         turns -= 1;
     }
     s
 }
 
-fn main() {
+fn main(rt: HostRuntime) {
     // One frame more than a table may have, so that a longer one is refused by its length.
     let mut table = [0u8; 49164];
     let mut store = [0u32; 2000];
@@ -156,7 +160,10 @@ fn main() {
     let mut line = [0u8; 25];
     let mut input = [0u8; 65536];
     let mut text = [0u8; 65536];
+    let mut from = rt.reader();
     let s = read_all(
+        &rt,
+        &mut from,
         &mut table,
         &mut store,
         &mut values,
@@ -164,5 +171,5 @@ fn main() {
         &mut input,
         &mut text,
     );
-    flush(&text, s);
+    flush(&rt, &text, s);
 }

@@ -6,11 +6,12 @@
 
 ghost use Rattle.std.specs.Prelude.{◌+◌, ◌≤◌, ◌<◌, length};
 
-use libc::{STDIN_FILENO, STDOUT_FILENO};
 use lines::part::stretch;
 use session_dialogue::feeding::{END_ROOM, feed, finish};
 use session_dialogue::part::has_room;
 use session_dialogue::session::Session;
+use std::io;
+use std::io::Read;
 
 // The place of the next such mark from `from` on, or the end.
 fn next_mark(all: &[u8], mark: u8, from: usize) -> usize
@@ -162,12 +163,11 @@ fn begins_short(input: &[u8]) -> bool {
 }
 
 // Tells of session number k whether it printed its answer.
-fn tell(k: u64, right: bool) {
-    io::print_decimal(STDOUT_FILENO, k);
+fn tell(rt: &impl Print, k: u64, right: bool) -> io::Result<()> {
     if right {
-        io::write_all(STDOUT_FILENO, b" alike\n");
+        println!(rt; "{k} alike")
     } else {
-        io::write_all(STDOUT_FILENO, b" DIFFERS\n");
+        println!(rt; "{k} DIFFERS")
     }
 }
 
@@ -178,11 +178,8 @@ fn one(all: &[u8], from: usize, to: usize, answer: usize, end: usize) -> bool {
     same(stretch(&text, n), between(all, answer, end))
 }
 
-fn total(right: u64, k: u64) {
-    io::print_decimal(STDOUT_FILENO, right);
-    io::write_all(STDOUT_FILENO, b" of ");
-    io::print_decimal(STDOUT_FILENO, k);
-    io::write_all(STDOUT_FILENO, b" sessions print their answers\n");
+fn total(rt: &impl Print, right: u64, k: u64) -> io::Result<()> {
+    println!(rt; "{right} of {k} sessions print their answers")
 }
 
 // One more, if it is right.
@@ -194,7 +191,7 @@ fn counted(n: u64, right: bool) -> u64
 }
 
 // Each session with its answer.
-fn tell_all(all: &[u8])
+fn tell_all(rt: &impl Print, all: &[u8]) -> io::Result<()>
     requires { length all.now ≤ 131072 }
 {
     let n = all.len();
@@ -206,16 +203,34 @@ fn tell_all(all: &[u8])
         let answer = after_mark(all, to);
         let end = next_mark(all, b'=', answer);
         let is_right = one(all, from, to, answer, end);
-        tell(k, is_right);
+        tell(rt, k, is_right)?;
         right = counted(right, is_right);
         k += 1;
         from = after_mark(all, end);
     }
-    total(right, k);
+    total(rt, right, k)
 }
 
-fn main() {
+// Reads until the room is full, the input ends or a read fails. Answers how many bytes came.
+fn read_full<R: Read>(from: &mut R, room: &mut [u8]) -> usize
+    ensures { result ≤ length room.new }
+{
+    let mut done = 0;
+    while done < room.len() {
+        let Ok(n) = from.read(&mut room[done..]) else {
+            break;
+        };
+        if n == 0 {
+            break;
+        }
+        done += n;
+    }
+    done
+}
+
+fn main(rt: HostRuntime) -> io::Result<()> {
     let mut room = [0u8; 131072];
-    let n = io::read_full(STDIN_FILENO, &mut room);
-    tell_all(stretch(&room, n));
+    let mut from = rt.reader();
+    let n = read_full(&mut from, &mut room);
+    tell_all(&rt, stretch(&room, n))
 }

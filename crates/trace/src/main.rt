@@ -4,6 +4,6 @@
 
 use session_watch::{Wish, watch_session};
 
-fn main() {
-    watch_session(Wish::Trace, 1);
+fn main(rt: HostRuntime) {
+    watch_session(&rt, Wish::Trace, 1);
 }

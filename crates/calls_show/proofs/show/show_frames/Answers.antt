@@ -12,7 +12,7 @@ use mathlib.Core.Path.{◌≡◌, refl}
 use Prim.Native.Nat.{◌+◌, ◌*◌, ◌-◌, ◌≤◌}
 use borrow.Author.Rules.{rules}
 use Rattle.calls_show.proofs.show.show_frames.Goals as goal
-use Rattle.calls_show.proofs.show.show_frames.Goals.{else-loop-n-test, then-loop-n-test}
+use Rattle.calls_show.proofs.show.show_frames.Goals.{else-loop-n-test, then-loop-n-test+in_default}
 
 pub loop-n-init : goal.loop-n-init
 loop-n-init c = (search rules, all_none _, search rules, shown_none _ _ _, refl)
@@ -30,4 +30,4 @@ pub ended_by-requires : goal.ended_by-requires
 ended_by-requires c = c.loop-n.invariant.2
 
 pub returns : goal.returns
-returns c = (elim c.loop-n-test.branch [ then-loop-n-test w ↦ all_shown _ _ _ _ _ c.loop-n.invariant.1 c.loop-n.invariant.0 w.left | else-loop-n-test w ↦ some_shown _ _ _ _ _ c.loop-n.invariant.1 w.0.taken (says_nothing _ _ _ _ w.1.ensures w.3.given.1) ], c.ended_by.ensures, c.loop-n.invariant.3)
+returns c = (elim c.loop-n-test.branch [ then-loop-n-test+in_default w ↦ some_shown _ _ _ _ _ c.loop-n.invariant.1 w.loop-n-test.true (says_nothing _ _ _ _ w.said_by.ensures w.in_default.is) | else-loop-n-test w ↦ all_shown _ _ _ _ _ c.loop-n.invariant.1 c.loop-n.invariant.0 w.loop-n-test.false ], c.ended_by.ensures, c.loop-n.invariant.3)

@@ -1,0 +1,16 @@
+use Rattle.rules_numbers.specs.Bytes.{half_at}
+use Prim.Native.Nat.{◌≤◌, ◌-◌, ◌+◌}
+use Rattle.rules_sessions.proofs.laws.RunLines.{least_size}
+use Rattle.session_lines.proofs.Splitting.{Printed, printed_none, printed_more, printed_all}
+use Rattle.rules_moves.specs.Record.{record_size}
+use lib.ListN.{length, length-take, length-drop}
+use mathlib.Core.Path.{◌≡◌, refl, ap, ◌∙◌}
+use native.Mathlib.Omega.{arith}
+use borrow.Author.Rules.{rules}
+use Rattle.session_lines.proofs.record.put_all.Given as goal
+
+abbrev pub invariant-loop-from : goal.invariant-loop-from
+invariant-loop-from l = (l.from ≤ length l.out) × Printed (record_size l.t l.shape) l.out l.initial.text l.at l.from l.p l.text × (length l.text ≡ length l.initial.text)
+
+abbrev pub decreases-loop-from : goal.decreases-loop-from
+decreases-loop-from l = length l.out - l.from
