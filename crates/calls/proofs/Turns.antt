@@ -34,20 +34,20 @@ use Rattle.calls_run.specs.RunMade.{RunMade}
 
 -- ---- by the verdict and the call's own refusal
 module _ (v : Verdict) (q : ℕ) where
-  pub answer_faulty : {p f : ℕ} (done : Answer) → v ≡ refused p f → Refused p f ≡ answer_by v q done
-  answer_faulty done e = rw e
+  pub answer_faulty : {p f : ℕ} (answer : Answer) → v ≡ refused p f → Refused p f ≡ answer_by v q answer
+  answer_faulty answer e = rw e
 
   pub kept_faulty : {p f : ℕ} (s x : List ℕ) → v ≡ refused p f → s ≡ kept_by v q s x
   kept_faulty s x e = rw e
 
-  pub answer_stop : (done : Answer) → v ≡ accepted → (q ≡ 0 → ⊥) → Refused q 0 ≡ answer_by v q done
-  answer_stop done e n = rw (e, ne_eqb q 0 n)
+  pub answer_stop : (answer : Answer) → v ≡ accepted → (q ≡ 0 → ⊥) → Refused q 0 ≡ answer_by v q answer
+  answer_stop answer e n = rw (e, ne_eqb q 0 n)
 
   pub kept_stop : (s x : List ℕ) → v ≡ accepted → (q ≡ 0 → ⊥) → s ≡ kept_by v q s x
   kept_stop s x e n = rw (e, choose_false (eqb q 0) x s (ne_eqb q 0 n))
 
-  pub answer_pass : (done : Answer) → v ≡ accepted → q ≡ 0 → done ≡ answer_by v q done
-  answer_pass done e z = rw (e, eq-eqb q 0 z)
+  pub answer_pass : (answer : Answer) → v ≡ accepted → q ≡ 0 → answer ≡ answer_by v q answer
+  answer_pass answer e z = rw (e, eq-eqb q 0 z)
 
   pub kept_pass : (s x : List ℕ) {s' : List ℕ} → v ≡ accepted → q ≡ 0 → s' ≡ x → s' ≡ kept_by v q s x
   kept_pass s x e z u = rw (e, choose_true (eqb q 0) x s (eq-eqb q 0 z)) u

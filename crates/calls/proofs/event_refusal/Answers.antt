@@ -1,0 +1,21 @@
+-- `event_refusal` meets its contract: 9 before 10 before 11.
+use borrow.Author.Rules.{rules}
+use Rattle.rules_calls.specs.Refusals.{event_refusal}
+use borrow.Author.Tests.{lt-ltb, le-ltb, eq-eqb, ne_eqb, not-true, not-false}
+use Rattle.calls.proofs.event_refusal.Goals as goal
+
+pub returns-then-not-of_source : goal.returns-then-not-of_source
+unfolding event_refusal
+returns-then-not-of_source c = rw (← c.of_source.ensures, c.if-not-of_source.true)
+
+pub returns-then-time-birth : goal.returns-then-time-birth
+unfolding event_refusal
+returns-then-time-birth c = rw (← c.of_source.ensures, c.if-not-of_source.false, ← c.time.ensures, lt-ltb _ _ c.if-time-birth.true)
+
+pub returns-then-values-value_count : goal.returns-then-values-value_count
+unfolding event_refusal
+returns-then-values-value_count c = rw (← c.of_source.ensures, c.if-not-of_source.false, ← c.time.ensures, le-ltb _ _ c.if-time-birth.false, ← c.value_count.ensures, eq-eqb _ _ c.if-values-value_count.true)
+
+pub returns-else-values-value_count : goal.returns-else-values-value_count
+unfolding event_refusal
+returns-else-values-value_count c = rw (← c.of_source.ensures, c.if-not-of_source.false, ← c.time.ensures, le-ltb _ _ c.if-time-birth.false, ← c.value_count.ensures, ne_eqb _ _ c.if-values-value_count.false)

@@ -1,0 +1,11 @@
+-- `await_values` meets its contract: the arrival is made, or waits.
+use Rattle.session_dialogue.proofs.Telling.{took_is, all_came, still_waits, told_calm}
+use native.Mathlib.Omega.{arith}
+use borrow.Author.Rules.{rules}
+use Rattle.session_dialogue.proofs.told.await_values.Goals as goal
+
+pub returns-then-got-n : goal.returns-then-got-n
+returns-then-got-n c = (λ vs w. took_is (all_came _ _ vs _ _ _ _ _ w c.if-got-n.true) (c.tell_arrival.ensures.0 w.room), c.tell_arrival.ensures.1)
+
+pub returns : goal.returns
+returns c = (λ vs w. still_waits _ _ _ _ vs _ _ _ _ _ _ w c.if-got-n.false c.told.ensures, told_calm _ _ c.told.ensures 25 (omega arith))

@@ -1,0 +1,9 @@
+-- `tell_advance` meets its contract: the call, then its line.
+use Rattle.session_dialogue.proofs.Telling.{told_advance, told_calm}
+use native.Mathlib.Omega.{arith}
+use mathlib.Core.Path.{refl}
+use borrow.Author.Rules.{rules}
+use Rattle.session_dialogue.proofs.told.tell_advance.Goals as goal
+
+pub returns : goal.returns
+returns c = (λ W l. told_advance _ _ c.told.ensures _ _ _ W _ _ _ l c.stretch.ensures _ c.advance-a.ensures refl c.put_answer-at.ensures, told_calm _ _ c.told.ensures 25 (omega (arith, c.put_answer-at.ensures.1)))

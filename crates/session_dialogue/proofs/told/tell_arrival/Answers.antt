@@ -1,0 +1,9 @@
+-- `tell_arrival` meets its contract: the call, then its line.
+use Rattle.session_dialogue.proofs.Telling.{told_arrival, told_calm}
+use native.Mathlib.Omega.{arith}
+use mathlib.Core.Path.{refl}
+use borrow.Author.Rules.{rules}
+use Rattle.session_dialogue.proofs.told.tell_arrival.Goals as goal
+
+pub returns : goal.returns
+returns c = (λ l. told_arrival _ _ c.told.ensures _ _ _ _ _ _ _ l c.stretch.ensures c.args.n _ _ _ c.words.ensures c.arrival-a.ensures refl c.put_answer-at.ensures, told_calm _ _ c.told.ensures 25 (omega (arith, c.put_answer-at.ensures.1)))
