@@ -1,0 +1,21 @@
+-- `put_elements` meets its contract. The invariant (`Passed`): the elements passed are printed.
+use Rattle.session_trace.proofs.Walking.{Passed, passed_none, element_room, passed_more, passed_all}
+use Rattle.rules_tables.specs.Ids.{elements}
+use lib.ListN.{length}
+use mathlib.Core.Path.{◌≡◌, refl}
+use native.Mathlib.Omega.{arith}
+use Prim.Native.Nat.{◌≤◌, ◌-◌}
+use borrow.Author.Rules.{rules}
+use Rattle.session_trace.proofs.shown.put_elements.Goals as goal
+
+pub loop-el-init : goal.loop-el-init
+loop-el-init c = (omega arith, passed_none _ _ _ _ _, refl)
+
+pub put_element-p-requires : goal.put_element-p-requires
+put_element-p-requires c = (search rules, search rules, let h = element_room _ _ _ c.requires.0 c.loop-el.invariant.1 (omega arith) in omega arith)
+
+pub loop-el-preserved : goal.loop-el-preserved
+loop-el-preserved c = (omega arith, passed_more _ _ _ c.loop-el.invariant.1 c.put_element-p.ensures, omega arith)
+
+pub returns : goal.returns
+returns c = passed_all _ _ _ c.requires.0 c.loop-el.invariant.1 (omega arith)

@@ -1,0 +1,7 @@
+-- `put_line_of` meets its contract: what the calls print, one after another, is the line.
+use Rattle.session_trace.proofs.Showing.{element_told}
+use borrow.Author.Rules.{rules}
+use Rattle.session_trace.proofs.shown.put_line_of.Goals as goal
+
+pub returns : goal.returns
+returns c = element_told _ _ _ c.flag-sort.ensures.0 c.put_word-named.ensures c.put_number-numbered.ensures c.put_word-apart.ensures c.put_sort-sorted.ensures c.put_state-told.ensures c.put_word.ensures
