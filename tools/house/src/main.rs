@@ -1,7 +1,7 @@
 //! What must be believed: the definitions that the public statements of this repository reach, and the files they stand in.
 //!
-//! A file of `specs/` is read as a header, its imports and its items. An item is a definition (`abbrev`, `unfoldable`, `record`, `data`) or a
-//! law. From the contracts of the public functions, from the laws named below and from nothing else the names are followed through the imports
+//! A file of `specs/` or `proofs/laws/` is read as a header, its imports and its items. An item is a definition (`abbrev`, `unfoldable`, `record`,
+//! `data`) or a law. From the contracts of the public functions, from the laws named below and from nothing else the names are followed through the imports
 //! until no file is new.
 
 mod page;
@@ -17,9 +17,9 @@ const CONTRACTS: &[&str] =
 /// The laws whose statements are promises too: demand 3, when a delay is due, and what the step program prints.
 const THEOREMS: &[(Place, &str)] = &[
     (Place::fixed("laws_calls", "laws.Demand3"), ""),
-    (Place::fixed("laws_calls", "laws.Timers"), "delay-due"),
-    (Place::fixed("laws_calls", "laws.NextDue"), "next-due"),
-    (Place::fixed("session_dialogue", "laws.Whole"), "runs-print"),
+    (Place::fixed("laws_calls", "laws.Timers"), "delay_due"),
+    (Place::fixed("laws_calls", "laws.NextDue"), "next_due_lem"),
+    (Place::fixed("session_dialogue", "laws.Whole"), "runs_print"),
 ];
 
 /// What stands between code and law in a statement and need not be believed: were it too weak the law could not be proved, were it too strong the code could not.

@@ -6,7 +6,7 @@ use std::fs;
 use std::io;
 use std::path::{Path, PathBuf};
 
-/// A file of specs: its crate, and its module, as `Fire` or `laws.Fire`; `declared` stands for the types in the crate's source.
+/// A file of definitions or laws: its crate, and its module, as `Fire` (specs/) or `laws.Fire` (proofs/laws/); `declared` stands for the types in the crate's source.
 #[derive(Clone, Debug, PartialEq, Eq, PartialOrd, Ord)]
 pub struct Place {
     pub library: Cow<'static, str>,
@@ -26,7 +26,8 @@ impl Place {
         if self.module == "declared" {
             return PathBuf::from(format!("crates/{}/src/lib.rt", self.library));
         }
-        PathBuf::from(format!("crates/{}/specs/{}.antt", self.library, self.module.replace('.', "/")))
+        let folder = if self.module.starts_with("laws.") { "proofs" } else { "specs" };
+        PathBuf::from(format!("crates/{}/{folder}/{}.antt", self.library, self.module.replace('.', "/")))
     }
 }
 
@@ -62,8 +63,10 @@ fn words(text: &str) -> BTreeSet<String> {
     let mut out = BTreeSet::new();
     for line in text.lines() {
         let line = line.split("--").next().unwrap_or("");
-        for word in line.split(|c: char| c.is_whitespace() || "(){},;⌜⌝".contains(c)) {
-            if !word.is_empty() && !word.starts_with('.') {
+        for word in line.split(|c: char| c.is_whitespace() || "(){},;".contains(c)) {
+            // What follows a dot is a field.
+            let word = word.split('.').next().unwrap_or("");
+            if !word.is_empty() {
                 out.insert(word.trim_matches(|c| c == '«' || c == '»').to_string());
             }
         }
@@ -71,16 +74,14 @@ fn words(text: &str) -> BTreeSet<String> {
     out
 }
 
-/// The crate and module of a path as `Rattle·rules_moves.specs.Fire` or `Rattle·rules_moves·specs.specs.Fire`.
+/// The crate and module of a path as `Rattle.rules_moves.specs.Fire` or `Rattle.rules_moves.proofs.laws.Fire`. Other files of proofs/ hold nothing that
+/// a statement names.
 fn place_of(path: &str) -> Option<Place> {
-    let rest = path.strip_prefix("Rattle·")?;
-    let end = rest.find(['·', '.'])?;
-    let (library, rest) = rest.split_at(end);
-    let module = rest.trim_start_matches("·specs").strip_prefix(".specs.")?;
-    Some(match module.starts_with("declared") {
-        true => Place::new(library, "declared"),
-        false => Place::new(library, module),
-    })
+    let (library, rest) = path.strip_prefix("Rattle.")?.split_once('.')?;
+    if let Some(module) = rest.strip_prefix("specs.") {
+        return Some(Place::new(library, if module.starts_with("declared") { "declared" } else { module }));
+    }
+    rest.strip_prefix("proofs.").filter(|m| m.starts_with("laws.")).map(|m| Place::new(library, m))
 }
 
 fn imports(line: &str, out: &mut BTreeMap<String, (Place, String)>) {
@@ -181,10 +182,10 @@ impl House {
     pub fn read() -> io::Result<House> {
         let list = fs::read_to_string("crates.txt")?;
         let crates: Vec<String> =
-            list.lines().filter(|l| !l.starts_with('#')).filter_map(|l| l.split_once(':').map(|(c, _)| c.to_string())).collect();
+            list.lines().filter(|l| !l.starts_with('#')).filter_map(|l| l.split([' ', ':']).next().map(str::to_string)).collect();
         let mut files = BTreeMap::new();
         for library in &crates {
-            for (folder, prefix) in [("specs", ""), ("specs/laws", "laws.")] {
+            for (folder, prefix) in [("specs", ""), ("proofs/laws", "laws.")] {
                 let folder = format!("crates/{library}/{folder}");
                 let Ok(entries) = fs::read_dir(&folder) else { continue };
                 for entry in entries {
@@ -258,7 +259,7 @@ impl House {
     fn named(&self, place: &Place, file: &File, words: &BTreeSet<String>) -> Vec<(Place, String)> {
         let mut out = Vec::new();
         for (name, from) in &file.imports {
-            let core = name.trim_matches('_');
+            let core = name.trim_matches('◌');
             if words.contains(name) || words.contains(core) {
                 out.push(from.clone());
             }
@@ -277,12 +278,13 @@ impl House {
     }
 }
 
-/// What the promises of the public functions of a source file name.
+/// What the promises of the public functions of a source file name. A promise stands between braces, after its kind and maybe its name, on one line or more.
 fn contract_names(path: &str) -> Vec<(Place, String)> {
     let Ok(text) = fs::read_to_string(path) else { return Vec::new() };
     let mut imported = BTreeMap::new();
     let mut promised = BTreeSet::new();
     let mut public = false;
+    let mut open = 0;
     for line in text.lines() {
         if let Some(rest) = line.strip_prefix("ghost use ") {
             imports(rest, &mut imported);
@@ -293,8 +295,14 @@ fn contract_names(path: &str) -> Vec<(Place, String)> {
         } else if start.starts_with("fn ") {
             public = false;
         }
-        if public && (start.starts_with("ensures") || start.starts_with("requires")) {
-            promised.extend(words(start));
+        let promise = match open {
+            0 if start.starts_with("ensures") || start.starts_with("requires") => start.find('{').map_or("", |at| &start[at..]),
+            0 => continue,
+            _ => start,
+        };
+        open = (open + promise.matches('{').count()).saturating_sub(promise.matches('}').count());
+        if public {
+            promised.extend(words(promise));
         }
     }
     imported.into_iter().filter(|(name, _)| promised.contains(name)).map(|(_, from)| from).collect()
