@@ -5,7 +5,7 @@
  * slices, so that a controller gets to its other work between them (settle), read the records that the network's sinks write
  * (print_records), and look whether results were clipped (settle, main).
  *
- *     cc -std=c99 -Iinclude examples/host.c target/staticlib/libxaluudhiga.a -o host
+ *     cc -std=c99 -Iinclude examples/host.c crates/xaluudhiga/out/libxaluudhiga.a -o host
  */
 #include <stdint.h>
 #include <stdio.h>
