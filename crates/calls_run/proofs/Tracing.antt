@@ -19,7 +19,7 @@ use Rattle.rules_tables.specs.declared.Shape.{Shape}
 use Rattle.rules_store.specs.declared.Running.{Running}
 use Rattle.rules_moves.specs.declared.Next.{Next}
 use Rattle.rules_moves.specs.Next.{next_of, moves, move_by, size_by}
-use Rattle.rules_calls.specs.Run.{bytes, another, room_for, continues}
+use Rattle.rules_calls.specs.Run.{another, room_for, continues}
 use Rattle.rules_traces.specs.declared.Entry.{Entry}
 use Rattle.rules_traces.specs.Entry.{entry_frames}
 use Rattle.rules_traces.specs.Trace.{first_entries, entries_by, entries_of}

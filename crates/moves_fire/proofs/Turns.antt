@@ -7,7 +7,6 @@ use native.Mathlib.Omega.{arith}
 use borrow.Author.Tests.{eq-eqb}
 use lib.Dec.{eqb}
 use Rattle.rules_walks.proofs.laws.Choose.{choose_true}
-use Rattle.rules_walks.specs.First.{one}
 use Rattle.rules_tables.specs.Frame.{field_at}
 use Rattle.rules_tables.specs.declared.Shape.{Shape}
 use Rattle.rules_tables.specs.Ids.{first_connection, first_link, connection_frame, link_frame}

@@ -2,14 +2,13 @@
 use Prim.Native.Nat.{ℕ, ◌<◌}
 use mathlib.Core.Path.{◌≡◌, refl, sym, ap, ◌∙◌}
 use mathlib.Core.List.{List, [], ◌∷◌, ◌++◌}
-use mathlib.Core.Bool.{true, false}
 use native.Mathlib.Omega.{arith}
 use lib.IntN.{pos}
 use lib.Dec.{eqb}
 use borrow.Author.Tests.{eq-eqb, ne_eqb}
 use Rattle.rules_walks.specs.Choose.{choose}
 use Rattle.rules_walks.proofs.laws.Choose.{choose_true, choose_false}
-use Rattle.rules_walks.specs.First.{one, missing}
+use Rattle.rules_walks.specs.First.{one}
 use Rattle.rules_numbers.specs.Word.{signed, word}
 use Rattle.rules_numbers.specs.Truth.{outcome}
 use Rattle.rules_tables.specs.Kind.{none, internal}

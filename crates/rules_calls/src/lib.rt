@@ -1,4 +1,4 @@
-// The rules of the calls: types and definitions in specs/, laws about them in specs/laws/. No code but the answer's own methods.
+// The rules of the calls: types and definitions in specs/, laws about them in proofs/laws/. No code but the answer's own methods.
 #![tactic(auto)]
 
 ghost use Rattle.std.specs.Prelude.{◌≡◌};

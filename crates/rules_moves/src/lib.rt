@@ -1,4 +1,4 @@
-// The rules of the moves: types and definitions in specs/, laws about them in specs/laws/. No code.
+// The rules of the moves: types and definitions in specs/, laws about them in proofs/laws/. No code.
 #![tactic(auto)]
 
 // The associations that speak for an event output: those of this flag with this event.

@@ -1,4 +1,4 @@
-// The rules of numbers: words and signed values, clipped operations, numbers in bytes. Types and definitions in specs/, laws about them in specs/laws/. No code.
+// The rules of numbers: words and signed values, clipped operations, numbers in bytes. Types and definitions in specs/, laws about them in proofs/laws/. No code.
 #![tactic(auto)]
 
 // What an operation tells: its result, and whether that is the true one.

@@ -1,4 +1,4 @@
-// The rules of the step program: types and definitions in specs/, laws about them in specs/laws/. No code.
+// The rules of the step program: types and definitions in specs/, laws about them in proofs/laws/. No code.
 #![tactic(auto)]
 
 #[derive(Clone, Copy)]

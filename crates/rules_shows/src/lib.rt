@@ -1,2 +1,2 @@
-// What the programs `trace` and `show` print: definitions in specs/, computed examples in specs/laws/. No code.
+// What the programs `trace` and `show` print: definitions in specs/, computed examples in proofs/laws/. No code.
 #![tactic(auto)]

@@ -1,4 +1,4 @@
-// The rules of the store: types and definitions in specs/, laws about them in specs/laws/. No code but the running block's own methods.
+// The rules of the store: types and definitions in specs/, laws about them in proofs/laws/. No code but the running block's own methods.
 // The running block: mode (0 idle, 1 charts, 2 acts), live flag, action, step, and the birth of the current event.
 #![tactic(auto)]
 

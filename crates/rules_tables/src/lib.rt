@@ -1,4 +1,4 @@
-// The rules of tables: types and definitions in specs/, laws about them in specs/laws/. No code.
+// The rules of tables: types and definitions in specs/, laws about them in proofs/laws/. No code.
 #![tactic(auto)]
 
 // The frame after the last of each kind, of a table that was accepted.

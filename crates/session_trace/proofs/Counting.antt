@@ -12,7 +12,6 @@ use borrow.Author.Tests.{eq-eqb, ne_eqb, lt-ltb, le-ltb, leb-true}
 use Rattle.rules_walks.proofs.laws.Pick.{both_left, both_right}
 use Rattle.rules_walks.specs.All.{all_to}
 use Rattle.rules_walks.proofs.laws.All.{all_none, all_more, all_stop}
-use Rattle.session_trace.specs.declared.number.Number.{Number}
 use Rattle.session_trace.specs.declared.number.Number.TheVariants.{Is, Wrong}
 use Rattle.session_trace.specs.Number.{is_decimal, number_to, decimal_at, number_of}
 use Rattle.session_trace.proofs.Decimal.{power_grows}

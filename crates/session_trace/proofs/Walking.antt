@@ -1,12 +1,10 @@
 -- The walks over variables and elements, and what they have printed so far, over plain variables.
-use mathlib.Core.Path.{◌≡◌, refl, sym, ap, ◌∙◌}
-use mathlib.Core.List.{List, [], ◌++◌}
-use mathlib.Core.Bool.{true, false}
+use mathlib.Core.Path.{◌≡◌, refl, sym, ap}
+use mathlib.Core.List.{List}
+use mathlib.Core.Bool.{false}
 use mathlib.Core.Logic.{⊎_elim}
 use Prim.Native.Nat.{ℕ, ◌+◌, ◌*◌, ◌≤◌, ◌<◌}
 use native.Mathlib.Omega.{arith}
-use lib.ListN.{length}
-use lib.Seq.{sets}
 use Rattle.rules_walks.specs.Count.{count_if}
 use Rattle.rules_walks.proofs.laws.Count.{count_hit, count_miss}
 use Rattle.rules_walks.proofs.laws.Pick.{test_cases}

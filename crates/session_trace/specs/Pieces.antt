@@ -1,5 +1,5 @@
 -- What a piece of a traced run leaves, and what is shown of it.
-use Rattle.std.specs.Prelude.{◌≡◌, List, [], Bool, ℕ, ◌≤◌, eqb, ltb, length, take}
+use Rattle.std.specs.Prelude.{List, [], Bool, ℕ, ◌≤◌, eqb, ltb, length, take}
 use Rattle.rules_walks.specs.Pick.{both}
 use Rattle.rules_tables.specs.Frame.{Table}
 use Rattle.rules_tables.specs.declared.Judged.{Judged}

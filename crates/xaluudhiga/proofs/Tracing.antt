@@ -1,9 +1,8 @@
 -- A traced run is refused as a run is, so that its number and frame fit one number.
 use mathlib.Core.Path.{◌≡◌, refl, sym, ◌∙◌}
 use mathlib.Core.List.{List}
-use Prim.Native.Nat.{ℕ, ◌≤◌}
+use Prim.Native.Nat.{ℕ}
 use native.Mathlib.Omega.{arith}
-use Rattle.rules_calls.specs.declared.Answer.{Answer}
 use Rattle.rules_calls.specs.Answer.{number_of, frame_of}
 use Rattle.rules_calls.specs.Compact.{Compact}
 use Rattle.rules_calls.specs.Public.{run_answered, run_store, run_output, RunCall}

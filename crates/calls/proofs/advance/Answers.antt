@@ -1,6 +1,5 @@
 -- `advance` meets its contract: the refusals in their order, or the advanced store.
 use Rattle.calls.proofs.Tracing.{ready_lawful, ready_owners}
-use borrow.Author.Rules.{rules}
 use Rattle.rules_calls.proofs.laws.Checked.{ready}
 use Rattle.calls.proofs.Turns.{ready_kept, advance_faulty, advance_unready, advance_refused, advance_done}
 use Rattle.calls.proofs.advance.Goals as goal

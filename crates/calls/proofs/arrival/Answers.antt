@@ -1,6 +1,5 @@
 -- `arrival` meets its contract: the refusals in their order, or the store after the arrival.
 use Rattle.calls.proofs.Tracing.{ready_lawful, ready_owners}
-use borrow.Author.Rules.{rules}
 use Rattle.rules_calls.proofs.laws.Checked.{ready}
 use Rattle.calls.proofs.Turns.{event_known, arrival_faulty, arrival_unready, arrival_refused, arrival_done}
 use mathlib.Core.Path.{sym, ◌∙◌}

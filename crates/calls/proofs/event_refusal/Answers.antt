@@ -1,7 +1,6 @@
 -- `event_refusal` meets its contract: 9 before 10 before 11.
-use borrow.Author.Rules.{rules}
 use Rattle.rules_calls.specs.Refusals.{event_refusal}
-use borrow.Author.Tests.{lt-ltb, le-ltb, eq-eqb, ne_eqb, not-true, not-false}
+use borrow.Author.Tests.{lt-ltb, le-ltb, eq-eqb, ne_eqb}
 use Rattle.calls.proofs.event_refusal.Goals as goal
 
 pub returns-then-not-of_source : goal.returns-then-not-of_source

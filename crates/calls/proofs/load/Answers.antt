@@ -1,5 +1,4 @@
 -- `load` meets its contract: the table's refusal, 5, or the loaded store.
-use borrow.Author.Rules.{rules}
 use Rattle.store_words.proofs.laws.Small.{small}
 use Rattle.rules_calls.proofs.laws.Checked.{ready}
 use Rattle.calls.proofs.Turns.{load_faulty, load_short, load_done}

@@ -1,5 +1,4 @@
 -- `refused` meets its contract: by cases of the check's answer.
-use borrow.Author.Rules.{rules}
 use Rattle.calls.proofs.refused.Goals as goal
 
 pub returns-in-Sound : goal.returns-in-Sound

@@ -4,7 +4,6 @@ use Rattle.rules_calls.proofs.laws.Checked.{ready}
 use Rattle.laws_calls.proofs.laws.Refusals.{store_formed}
 use Rattle.calls.proofs.Turns.{store_now, run_faulty, run_unready, run_done}
 use Rattle.calls.proofs.Tracing.{ready_traceable, ready_owners}
-use borrow.Author.Rules.{rules}
 use Rattle.calls.proofs.run.Goals as goal
 
 pub returns-in_default : goal.returns-in_default

@@ -1,5 +1,4 @@
 -- `store_refusal` meets its contract: 5 before 6.
-use borrow.Author.Rules.{rules}
 use Rattle.rules_calls.specs.Refusals.{store_refusal}
 use Rattle.store_words.proofs.laws.Small.{small}
 use borrow.Author.Tests.{lt-ltb, le-ltb}

@@ -1,5 +1,4 @@
 -- `time_refusal` meets its contract: 7 before 8.
-use borrow.Author.Rules.{rules}
 use Rattle.rules_calls.specs.Refusals.{time_refusal}
 use Rattle.calls.proofs.time_refusal.Goals as goal
 

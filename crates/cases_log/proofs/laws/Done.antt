@@ -1,13 +1,12 @@
 -- A call that nothing refuses, as a step of a sequence: the store is what the rule says, and the log too.
 use Rattle.std.specs.Prelude.{◌≡◌, refl, List, ℕ, eqb, length}
-use Rattle.std.proofs.Common.{ap, subst, eq-eqb}
+use Rattle.std.proofs.Common.{subst, eq-eqb}
 use Rattle.rules_walks.proofs.laws.Choose.{choose_true}
 use Rattle.rules_tables.specs.Judge.{Verdict, accepted, judge, shape_of}
 use Rattle.rules_store.specs.Word.{now_of}
 use Rattle.rules_store.specs.Load.{loaded}
 use Rattle.rules_calls.specs.Run.{after}
 use Rattle.rules_calls.specs.Calls.{advanced, arrived}
-use Rattle.rules_calls.specs.declared.Answer.{Answer}
 use Rattle.rules_calls.specs.declared.Answer.TheVariants.{Done}
 use Rattle.rules_calls.specs.Answer.{answer_by, kept_by}
 use Rattle.rules_calls.specs.Refusals.{load_refusal, store_refusal, advance_refusal, arrival_refusal}

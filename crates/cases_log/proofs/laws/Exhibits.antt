@@ -3,7 +3,7 @@
 use Rattle.std.specs.Prelude.{◌≡◌, refl, List, [], ◌∷◌, ℕ, replicate}
 use Rattle.std.proofs.Common.{sym, subst, arith}
 use Rattle.rules_tables.specs.Judge.{accepted, judge}
-use Rattle.rules_store.specs.Word.{overwritten, value, buffer}
+use Rattle.rules_store.specs.Word.{overwritten}
 use Rattle.rules_store.specs.Own.{Due}
 use Rattle.rules_store.specs.Load.{loaded}
 use Rattle.rules_moves.specs.Connected.{runs}
@@ -18,7 +18,7 @@ use Rattle.laws_calls.proofs.laws.Demand3.{order, births, running_birth, input_v
 use Rattle.laws_calls.proofs.laws.Timers.{delay_due}
 use Rattle.cases_tables.proofs.laws.Cases.{worked_right}
 use Rattle.cases.specs.Claim.{everything}
-use Rattle.cases_log.specs.Session.{table, shape, before, log}
+use Rattle.cases_log.specs.Session.{table, shape, before}
 use Rattle.cases_log.specs.Network.{frames, network, outline, ten, twice, due, fifteen, to_twice, to_fifteen, to_end}
 use Rattle.cases_log.proofs.laws.Done.{loaded_since, advanced_since, arrived_since, ran_since}
 

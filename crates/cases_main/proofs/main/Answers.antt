@@ -1,6 +1,4 @@
 -- Every row fits the program's buffers (`row_fits`). The invariant bounds the row's number and the count, and the measure is how many rows are left.
-use borrow.Author.Rules.{rules}
-use Prim.Native.Nat.{◌-◌, ◌≤◌}
 use Rattle.cases_main.proofs.laws.Rows.{row_fits}
 use Rattle.cases_main.proofs.main.Goals as goal
 

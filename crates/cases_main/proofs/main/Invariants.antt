@@ -1,6 +1,4 @@
-use borrow.Author.Rules.{rules}
 use Prim.Native.Nat.{◌-◌, ◌≤◌}
-use Rattle.cases_main.proofs.laws.Rows.{row_fits}
 use Rattle.cases_main.proofs.main.Given as goal
 
 abbrev pub invariant-loop-i : goal.invariant-loop-i

@@ -2,7 +2,6 @@
 use mathlib.Core.Path.{◌∙◌, sym}
 use Rattle.cases_numbers.specs.Rows.{answered}
 use Rattle.cases_numbers.proofs.laws.Rows.{else_ticks}
-use borrow.Author.Rules.{rules}
 use Rattle.cases_numbers.proofs.answer.Goals as goal
 
 pub returns-in-0 : goal.returns-in-0

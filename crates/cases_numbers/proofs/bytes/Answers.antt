@@ -4,7 +4,6 @@ use mathlib.Core.Path.{ap, ◌∙◌}
 use mathlib.Core.List.{List}
 use borrow.Author.Tests.{eq-eqb}
 use Rattle.rules_numbers.specs.Bytes.{half_at, word_at, half_bytes, word_bytes}
-use borrow.Author.Rules.{rules}
 use Rattle.cases_numbers.proofs.bytes.Goals as goal
 
 pub expect-requires : goal.expect-requires

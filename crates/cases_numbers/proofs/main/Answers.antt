@@ -1,7 +1,5 @@
 -- `main` meets its contract: every row can be asked and is answered as it should be (`young`, `right`, `rightly_told`). The invariant bounds the row's number, and the measure is how many rows are left.
-use Prim.Native.Nat.{◌-◌, ◌≤◌}
 use mathlib.Core.Path.{ap, ◌∙◌}
-use borrow.Author.Rules.{rules}
 use borrow.Author.Tests.{eq-eqb}
 use Rattle.cases_numbers.specs.declared.Told.{Told}
 use Rattle.cases_numbers.proofs.laws.Rows.{young, right, rightly_told}

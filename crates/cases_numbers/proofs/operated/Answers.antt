@@ -6,7 +6,6 @@ use Rattle.rules_walks.specs.Pick.{pick}
 use Rattle.rules_numbers.specs.declared.Outcome.{Outcome}
 use Rattle.rules_numbers.specs.Word.{word}
 use Rattle.rules_numbers.specs.Truth.{outcome}
-use borrow.Author.Rules.{rules}
 use Rattle.cases_numbers.proofs.operated.Goals as goal
 
 pub returns : goal.returns

@@ -11,7 +11,6 @@ use Rattle.rules_tables.specs.Judge.{Verdict, accepted, refused, judge, shape_of
 use Rattle.rules_tables.proofs.laws.Accepted.{accepted_means}
 use Rattle.rules_tables.proofs.laws.Lawful.{lawful}
 use Rattle.rules_store.specs.Word.{count_end, now_of, untrue}
-use Rattle.rules_store.specs.Load.{loaded}
 use Rattle.rules_calls.specs.Calls.{advanced, arrived}
 use Rattle.rules_calls.specs.Run.{after, untrue_in}
 use Rattle.rules_calls.specs.declared.Answer.{Answer}

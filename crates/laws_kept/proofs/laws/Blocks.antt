@@ -9,7 +9,7 @@ use Rattle.rules_tables.specs.Frame.{flag_at, field_at}
 use Rattle.rules_tables.specs.declared.Shape.{Shape}
 use Rattle.rules_store.specs.declared.Running.{Running}
 use Rattle.rules_tables.specs.Ids.{elements, inputs, input_frame, transitions, transition_frame, state_frame}
-use Rattle.rules_store.specs.Running.{rest, awake, entered, charting}
+use Rattle.rules_store.specs.Running.{rest, awake, entered}
 use Rattle.rules_store.specs.Word.{largest_due, largest_time, now_of, put_now, running_element, current_event, put_owner, running_of, put_running, chart_state, put_chart_state, due_flag, due_time}
 use Rattle.rules_store.specs.Due.{put_due}
 use Rattle.rules_store.specs.Part.{time, block, chart, due, just, calm, SameBlock, Leaves}

@@ -8,7 +8,7 @@ use Rattle.rules_tables.specs.Frame.{flag_at, field_at}
 use Rattle.rules_tables.specs.declared.Shape.{Shape}
 use Rattle.rules_store.specs.declared.Running.{Running}
 use Rattle.rules_tables.specs.Ids.{elements, inputs, variables, variable_frame, action_frame}
-use Rattle.rules_store.specs.Running.{rest, entered, charting}
+use Rattle.rules_store.specs.Running.{rest, entered}
 use Rattle.rules_store.specs.Word.{now_of, running_element, current_event, running_of, next_due, chart_state, buffer}
 use Rattle.rules_store.specs.Part.{Part, time, block, count, chart, due, input, sampled as «samples_part», buffered, just, also, SameBlock, SameDue, SameInput, Leaves}
 use Rattle.rules_store.specs.Due.{earliest}

@@ -1,6 +1,6 @@
 -- "Load zeroes the need, then sets initial chart states, and start values in value and, for inputs, buffer.": a loaded store is well formed, and holds the
 -- start values.
-use Rattle.std.specs.Prelude.{◌≡◌, List, Bool, length, set}
+use Rattle.std.specs.Prelude.{◌≡◌, List, Bool, length}
 use Rattle.std.proofs.Math.Path.{refl}
 use Rattle.std.proofs.Common.{sym, ap, ◌∙◌, eq-or-lt_of_le, le_of_suc-le-suc, not-suc-le-zero, arith}
 use Rattle.std.proofs.Math.Bool.{true, false}

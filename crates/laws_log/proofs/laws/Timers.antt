@@ -49,7 +49,7 @@ use Rattle.rules_moves.proofs.laws.Taking.{fires_nothing, sampled_leaves, passes
 use Rattle.rules_calls.specs.Calls.{expired, expire, advanced, give, arrived, of_source}
 use Rattle.rules_calls.specs.Run.{after}
 use Rattle.rules_calls.proofs.laws.Calls.{gives_leaves}
-use Rattle.rules_log.specs.Log.{How, begins, goes_on, takes, fires, Log, more, fire_log, move_log, run_log, expire_log, advance_log, arrival_log}
+use Rattle.rules_log.specs.Log.{How, begins, goes_on, takes, Log, more, fire_log, move_log, run_log, expire_log, advance_log, arrival_log}
 use Rattle.rules_log.specs.Timer.{Timer, until, rests, start_timer, timer, Clocked}
 use Rattle.laws_log.proofs.laws.Moves.{runs_within, formed_after, now_after}
 

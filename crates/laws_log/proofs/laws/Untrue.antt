@@ -10,7 +10,7 @@ use Rattle.rules_walks.proofs.laws.Walk.{up_to_keeps}
 use Rattle.rules_walks.specs.First.{Sought}
 use Rattle.rules_walks.specs.Walk.{up_to}
 use Rattle.rules_tables.specs.declared.Shape.{Shape}
-use Rattle.rules_tables.specs.Ids.{elements, inputs, steps, first_output, outputs, associations, step_frame}
+use Rattle.rules_tables.specs.Ids.{elements, inputs, first_output, outputs, associations, step_frame}
 use Rattle.rules_tables.specs.Lawful.{Lawful}
 use Rattle.rules_tables.specs.Owned.{any, nth}
 use Rattle.rules_store.specs.declared.Running.{Running}

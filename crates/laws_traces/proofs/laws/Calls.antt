@@ -8,7 +8,7 @@ use Rattle.std.proofs.Math.Logic.{⊎_elim}
 use Prim.Native.Nat.{ℕ, zero, suc, ◌+◌, ◌*◌, ◌/◌, ◌≤◌, ◌<◌}
 use native.Mathlib.Omega.{arith}
 use Rattle.std.proofs.Math.ListN.{length, length-append}
-use borrow.Author.Tests.{eqb-true, leb-true, le-ltb}
+use borrow.Author.Tests.{leb-true, le-ltb}
 use Rattle.rules_walks.specs.Pick.{pick}
 use Rattle.rules_walks.proofs.laws.Pick.{both_right}
 use Rattle.rules_walks.specs.Held.{held_to}

@@ -1,5 +1,4 @@
 -- `action_number` meets its contract: found or not.
-use borrow.Author.Rules.{rules}
 use Rattle.moves_chart.proofs.Turns.{number_one, number_missing}
 use Rattle.moves_chart.proofs.action_number.Goals as goal
 

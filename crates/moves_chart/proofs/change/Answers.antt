@@ -1,5 +1,4 @@
 -- `change` meets its contract: the state first, then the running block, which the state leaves.
-use borrow.Author.Rules.{rules}
 use Rattle.rules_moves.specs.Chart.{change}
 use Rattle.store_words.proofs.laws.Running.{chart_runs}
 use Rattle.moves_chart.proofs.change.Goals as goal

@@ -1,7 +1,6 @@
 -- `enabled` meets its contract: event, then guard; the state is the one that the transition leaves.
-use borrow.Author.Rules.{rules}
 use mathlib.Core.Path.{refl}
-use borrow.Author.Tests.{eq-eqb, not-true, not-false}
+use borrow.Author.Tests.{eq-eqb}
 use Rattle.rules_moves.specs.Chart.{enabled}
 use Rattle.moves_chart.proofs.enabled.Goals as goal
 

@@ -1,8 +1,6 @@
 -- `find_transition` meets its contract. The invariant: the search goes on from transition j, which leaves the state (`Searching` (Turns)).
-use borrow.Author.Rules.{rules}
 use native.Mathlib.Omega.{arith}
-use Prim.Native.Nat.{◌-◌}
-use Rattle.moves_chart.proofs.Turns.{Searching, search_begins, search_goes_on, search_nearer, search_hits, search_ends}
+use Rattle.moves_chart.proofs.Turns.{search_begins, search_goes_on, search_nearer, search_hits, search_ends}
 use Rattle.moves_chart.proofs.find_transition.Goals as goal
 
 pub loop-j-init : goal.loop-j-init

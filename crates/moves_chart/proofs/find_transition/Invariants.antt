@@ -1,7 +1,5 @@
-use borrow.Author.Rules.{rules}
-use native.Mathlib.Omega.{arith}
 use Prim.Native.Nat.{◌-◌}
-use Rattle.moves_chart.proofs.Turns.{Searching, search_begins, search_goes_on, search_nearer, search_hits, search_ends}
+use Rattle.moves_chart.proofs.Turns.{Searching}
 use Rattle.moves_chart.proofs.find_transition.Given as goal
 
 abbrev pub invariant-loop-j : goal.invariant-loop-j

@@ -1,5 +1,4 @@
 -- `go_idle` meets its contract: no owner, and a resting block.
-use borrow.Author.Rules.{rules}
 use Rattle.rules_moves.specs.Chart.{go_idle}
 use Rattle.moves_chart.proofs.go_idle.Goals as goal
 

@@ -1,5 +1,4 @@
 -- `heard` meets its contract: none first, then live, then the event.
-use borrow.Author.Rules.{rules}
 use Rattle.rules_moves.specs.Chart.{heard}
 use borrow.Author.Tests.{ne_eqb}
 use Rattle.moves_chart.proofs.heard.Goals as goal

@@ -1,5 +1,4 @@
 -- `number_after` meets its contract: where the index leads from the k-th action there is the one after it, or none.
-use borrow.Author.Rules.{rules}
 use Rattle.moves_chart.proofs.Turns.{after_one, after_missing}
 use Rattle.moves_chart.proofs.number_after.Goals as goal
 

@@ -1,5 +1,4 @@
 -- `state_of` meets its contract by those of `element_of` and `chart_state`.
-use borrow.Author.Rules.{rules}
 use mathlib.Core.Path.{◌∙◌}
 use Rattle.moves_chart.proofs.state_of.Goals as goal
 

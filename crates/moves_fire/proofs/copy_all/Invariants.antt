@@ -1,20 +1,14 @@
-use Rattle.moves_fire.proofs.laws.Copies.{copies_one_by_one}
-use Rattle.moves_fire.proofs.laws.Carrying.{carried_idle, speaks_belongs}
-use Rattle.table_index.proofs.laws.Leads.{leads_start, leads_more}
 use Rattle.moves_fire.specs.Carried.{copies_from}
 use Rattle.rules_moves.specs.Carry.{carried_by}
 use Rattle.rules_tables.specs.Ids.{first_association, associations}
 use mathlib.Core.List.{List}
 use Prim.Native.Nat.{ℕ}
-use Rattle.rules_walks.proofs.laws.Walk.{up_to_end}
 use Rattle.rules_tables.specs.Owned.{belongs}
 use Rattle.rules_walks.specs.Walk.{up_to}
 use Prim.Native.Nat.{◌≤◌, ◌<◌, ◌-◌}
 use mathlib.Core.Bool.{true}
 use lib.ListN.{length}
-use mathlib.Core.Path.{◌≡◌, refl, sym, ◌∙◌}
-use borrow.Author.Rules.{rules}
-use native.Mathlib.Omega.{arith}
+use mathlib.Core.Path.{◌≡◌}
 use Rattle.moves_fire.proofs.copy_all.Given as goal
 
 abbrev pub invariant-loop-j : goal.invariant-loop-j

@@ -1,40 +1,11 @@
--- src/lib.rt:87:9
--- src/lib.rt:88:9
--- src/lib.rt:89:5
--- src/lib.rt:90:13
--- src/lib.rt:91:13
--- src/lib.rt:92:34
--- src/lib.rt:92:9
--- src/lib.rt:93:9
--- src/lib.rt:89:5
--- src/lib.rt:89:5
--- src/lib.rt:83:1
--- src/lib.rt:83:1
 use Rattle.store_words.proofs.laws.Small.{small}
 use Rattle.moves_fire.proofs.laws.Carrying.{copy_idle}
 use Rattle.moves_fire.proofs.Turns.{copy_take}
 use Rattle.table_index.proofs.laws.Owned.{any_owner}
 use Rattle.table_index.proofs.laws.Leads.{leads_start, leads_more}
-use Rattle.rules_moves.specs.Fire.{copy_if}
-use Rattle.rules_tables.specs.Ids.{first_link, links}
-use lib.Dec.{eqb}
 use Rattle.rules_walks.proofs.laws.Walk.{up_to_end}
-use Rattle.rules_tables.specs.Owned.{any, belongs}
-use Rattle.rules_walks.specs.Walk.{up_to}
-use Prim.Native.Nat.{◌≤◌, ◌<◌, ◌-◌}
-use mathlib.Core.Bool.{true}
-use lib.ListN.{length}
-use mathlib.Core.Path.{◌≡◌, refl}
-use borrow.Author.Rules.{rules}
+use mathlib.Core.Path.{refl}
 use native.Mathlib.Omega.{arith}
-use Rattle.moves_fire.proofs.copy_from.Reads as reads
-use Rattle.store_words.proofs.shape.link_frame.Reads as link_frame_reads
-use Rattle.store_words.proofs.shape.links.Reads as links_reads
-use Rattle.store_words.proofs.word.put_buffer.Reads as put_buffer_reads
-use Rattle.store_words.proofs.word.value_of.Reads as value_of_reads
-use Rattle.table_frames.proofs.frame.field.Reads as field_reads
-use Rattle.table_index.proofs.read.first_link.Reads as first_link_reads
-use Rattle.table_index.proofs.read.next_link.Reads as next_link_reads
 use Rattle.moves_fire.proofs.copy_from.Goals as goal
 
 pub first_link-j-requires : goal.first_link-j-requires

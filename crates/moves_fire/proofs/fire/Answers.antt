@@ -1,5 +1,4 @@
 -- `fire` meets its contract: the connections, then the copies by the voice that is the event's own.
-use borrow.Author.Rules.{rules}
 use Rattle.rules_moves.specs.Fire.{fire}
 use Rattle.moves_fire.proofs.laws.Carrying.{voice_flag}
 use Rattle.moves_fire.proofs.fire.Goals as goal

@@ -1,7 +1,6 @@
 -- `fire_by` meets its contract: the connections, then the copies by the voice that it is given.
 use Rattle.moves_fire.proofs.laws.Carrying.{voice_flag}
 use Rattle.rules_moves.specs.Fire.{fire}
-use borrow.Author.Rules.{rules}
 use Rattle.moves_fire.proofs.fire_by.Goals as goal
 
 pub copy_all-requires : goal.copy_all-requires

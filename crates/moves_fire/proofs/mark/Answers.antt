@@ -1,5 +1,4 @@
 -- `mark` meets its contract: the calls are the definition's parts, in its order.
-use borrow.Author.Rules.{rules}
 use Rattle.rules_moves.specs.Fire.{mark}
 use Rattle.moves_fire.proofs.mark.Goals as goal
 

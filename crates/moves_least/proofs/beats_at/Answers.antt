@@ -1,5 +1,4 @@
 -- `beats_at` meets its contract: last update, element priority, local priority, in this order, each read where `key_of` says.
-use borrow.Author.Rules.{rules}
 use Rattle.rules_moves.specs.Least.{beats}
 use borrow.Author.Tests.{eq-eqb, ne_eqb}
 use mathlib.Core.Path.{◌≡◌}

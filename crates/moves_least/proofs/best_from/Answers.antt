@@ -1,13 +1,6 @@
 -- `best_from` meets its contract. The invariant: `best`, with its key h, is the least of the event inputs before i. What `next_waiting` passes by changes nothing.
-use borrow.Author.Rules.{rules}
-use Rattle.rules_walks.specs.Walk.{up_to}
-use Rattle.rules_moves.specs.declared.Best.TheVariants.{At, Nothing}
-use Rattle.rules_moves.specs.Least.{look}
 use Rattle.moves_least.proofs.Turns.{best_first, best_won, best_lost, best_end}
-use mathlib.Core.Logic.{⊎_elim}
-use mathlib.Core.Path.{◌≡◌}
 use native.Mathlib.Omega.{arith}
-use Prim.Native.Nat.{◌≤◌, ◌-◌}
 use Rattle.moves_least.proofs.best_from.Goals as goal
 use Rattle.moves_least.proofs.best_from.Goals.{then-beats_at, else-beats_at}
 

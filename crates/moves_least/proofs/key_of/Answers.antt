@@ -1,5 +1,4 @@
 -- `key_of` meets its contract: the three parts are read where `key_of` says.
-use borrow.Author.Rules.{rules}
 use native.Mathlib.Omega.{arith}
 use Rattle.moves_least.proofs.key_of.Goals as goal
 

@@ -1,5 +1,4 @@
 -- `least` meets its contract: nothing waits, or the first that does leads to the least.
-use borrow.Author.Rules.{rules}
 use Rattle.moves_least.proofs.Turns.{best_none}
 use Rattle.moves_least.proofs.least.Goals as goal
 

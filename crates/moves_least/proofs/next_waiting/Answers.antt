@@ -1,10 +1,7 @@
 -- `next_waiting` meets its contract. The invariant: of the event inputs passed none waits.
-use borrow.Author.Rules.{rules}
 use Rattle.moves_least.specs.Waits.{waits_at}
 use Rattle.moves_least.proofs.Turns.{skipped_more}
-use mathlib.Core.Bool.{false}
-use mathlib.Core.Path.{◌≡◌, sym, ◌∙◌}
-use Prim.Native.Nat.{ℕ, ◌≤◌, ◌<◌, ◌-◌}
+use mathlib.Core.Path.{sym, ◌∙◌}
 use native.Mathlib.Omega.{arith}
 use Rattle.moves_least.proofs.next_waiting.Goals as goal
 

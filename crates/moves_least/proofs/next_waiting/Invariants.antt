@@ -1,10 +1,7 @@
-use borrow.Author.Rules.{rules}
 use Rattle.moves_least.specs.Waits.{waits_at}
-use Rattle.moves_least.proofs.Turns.{skipped_more}
 use mathlib.Core.Bool.{false}
-use mathlib.Core.Path.{◌≡◌, sym, ◌∙◌}
+use mathlib.Core.Path.{◌≡◌}
 use Prim.Native.Nat.{ℕ, ◌≤◌, ◌<◌, ◌-◌}
-use native.Mathlib.Omega.{arith}
 use Rattle.moves_least.proofs.next_waiting.Given as goal
 
 abbrev pub invariant-loop-k : goal.invariant-loop-k

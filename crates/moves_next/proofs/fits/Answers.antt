@@ -1,5 +1,4 @@
 -- `fits` meets its contract: a record has 48 bytes at most (`size_most`), or its size says.
-use borrow.Author.Rules.{rules}
 use Rattle.rules_moves.proofs.laws.Sizes.{size_most}
 use Rattle.rules_moves.specs.Next.{size_by}
 use borrow.Author.Tests.{le-leb}

@@ -3,7 +3,6 @@ use mathlib.Core.Path.{refl}
 use native.Mathlib.Omega.{arith}
 use Rattle.rules_moves.proofs.laws.Next.{answer_ready, ready_input, ready_transition, ready_step, ready_action}
 use Rattle.moves_next.proofs.Turns.{untrue_fits, steps_few, end_action, actions_few, room_for, made_take, made_change, made_idle, made_step, made_end, made_back, made_nothing}
-use borrow.Author.Rules.{rules}
 use Rattle.moves_next.proofs.make.Goals as goal
 
 pub take_event-requires : goal.take_event-requires

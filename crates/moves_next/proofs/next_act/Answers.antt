@@ -1,5 +1,4 @@
 -- `next_act` meets its contract: what was found decides (`act_none`, `act_missing`, `act_step`, `act_end`).
-use borrow.Author.Rules.{rules}
 use Rattle.moves_next.proofs.Turns.{act_none, act_missing, act_in, act_step, act_end}
 use Rattle.moves_next.proofs.next_act.Goals as goal
 

@@ -1,5 +1,4 @@
 -- `next_event` meets its contract: what was found decides.
-use borrow.Author.Rules.{rules}
 use Rattle.moves_next.proofs.Turns.{event_one, event_missing}
 use Rattle.moves_next.proofs.next_event.Goals as goal
 

@@ -1,5 +1,4 @@
 -- `next_move` meets its contract: by the mode.
-use borrow.Author.Rules.{rules}
 use Rattle.moves_next.proofs.Turns.{next_idle, next_charts, next_acts}
 use Rattle.rules_moves.proofs.laws.Next.{answer_ready}
 use Rattle.moves_next.proofs.next_move.Goals as goal

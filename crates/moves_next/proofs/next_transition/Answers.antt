@@ -1,5 +1,4 @@
 -- `next_transition` meets its contract: what was found decides.
-use borrow.Author.Rules.{rules}
 use Rattle.moves_next.proofs.Turns.{chart_one, chart_missing}
 use mathlib.Core.Path.{◌∙◌}
 use Rattle.moves_next.proofs.next_transition.Goals as goal

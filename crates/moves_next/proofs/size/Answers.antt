@@ -1,5 +1,4 @@
 -- `size` meets its contract: only an event that is taken can write.
-use borrow.Author.Rules.{rules}
 use Rattle.moves_next.proofs.Turns.{size_take}
 use Rattle.rules_moves.proofs.laws.Next.{ready_input}
 use Rattle.rules_moves.specs.Next.{written_by, size_by}

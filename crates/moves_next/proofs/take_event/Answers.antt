@@ -1,5 +1,4 @@
 -- `take_event` meets its contract: what is known of the event is what `receive` asks for.
-use borrow.Author.Rules.{rules}
 use Rattle.moves_take.proofs.laws.Known.{at_frame, owner_in, event_known}
 use Rattle.moves_next.proofs.take_event.Goals as goal
 

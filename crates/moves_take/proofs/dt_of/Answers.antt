@@ -1,5 +1,4 @@
 -- `dt_of` meets its contract: found or not.
-use borrow.Author.Rules.{rules}
 use Rattle.store_words.proofs.laws.Small.{small}
 use Rattle.moves_take.proofs.Turns.{dt_none, dt_one, nth_in}
 use native.Mathlib.Omega.{arith}

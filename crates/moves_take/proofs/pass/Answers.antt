@@ -1,18 +1,7 @@
--- src/lib.rt:82:25
--- src/lib.rt:82:20
--- src/lib.rt:83:9
--- src/lib.rt:83:9
--- src/lib.rt:85:5
--- src/lib.rt:78:1
--- src/lib.rt:78:1
 use Rattle.moves_take.proofs.Turns.{pass_none, pass_one, partner_in}
 use Rattle.store_words.proofs.laws.Small.{small}
 use mathlib.Core.Path.{refl}
 use native.Mathlib.Omega.{arith}
-use borrow.Author.Rules.{rules}
-use Rattle.moves_take.proofs.pass.Reads as reads
-use Rattle.moves_fire.proofs.partner.partner_variable.Reads as partner_variable_reads
-use Rattle.store_words.proofs.word.put_value.Reads as put_value_reads
 use Rattle.moves_take.proofs.pass.Goals as goal
 
 pub partner_variable-requires : goal.partner_variable-requires

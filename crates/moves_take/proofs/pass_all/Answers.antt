@@ -1,32 +1,7 @@
--- src/lib.rt:103:9
--- src/lib.rt:104:9
--- src/lib.rt:105:5
--- src/lib.rt:106:9
--- src/lib.rt:107:9
--- src/lib.rt:105:5
--- src/lib.rt:105:5
--- src/lib.rt:99:1
--- src/lib.rt:99:1
 use Rattle.moves_take.proofs.Turns.{passed_end, pass_idle, voiced}
 use Rattle.table_index.proofs.laws.Leads.{leads_start, leads_more}
-use Rattle.rules_moves.specs.Take.{sample, pass}
-use mathlib.Core.List.{List}
-use Prim.Native.Nat.{ℕ}
-use Rattle.rules_tables.specs.Ids.{first_association, associations}
-use Rattle.rules_tables.specs.Owned.{belongs}
-use Rattle.rules_tables.specs.Kind.{of_input}
-use Rattle.rules_walks.specs.Walk.{up_to}
-use Prim.Native.Nat.{◌≤◌, ◌<◌, ◌-◌}
-use mathlib.Core.Bool.{true}
-use lib.ListN.{length}
-use mathlib.Core.Path.{◌≡◌, refl}
-use borrow.Author.Rules.{rules}
+use mathlib.Core.Path.{refl}
 use native.Mathlib.Omega.{arith}
-use Rattle.moves_take.proofs.pass_all.Reads as reads
-use Rattle.moves_take.proofs.pass_on.Reads as pass_on_reads
-use Rattle.store_words.proofs.shape.associations.Reads as associations_reads
-use Rattle.table_index.proofs.read.first_association.Reads as first_association_reads
-use Rattle.table_index.proofs.read.next_association.Reads as next_association_reads
 use Rattle.moves_take.proofs.pass_all.Goals as goal
 
 pub first_association-j-requires : goal.first_association-j-requires

@@ -1,5 +1,3 @@
-use Rattle.moves_take.proofs.Turns.{passed_end, pass_idle, voiced}
-use Rattle.table_index.proofs.laws.Leads.{leads_start, leads_more}
 use Rattle.rules_moves.specs.Take.{sample, pass}
 use mathlib.Core.List.{List}
 use Prim.Native.Nat.{ℕ}
@@ -10,14 +8,7 @@ use Rattle.rules_walks.specs.Walk.{up_to}
 use Prim.Native.Nat.{◌≤◌, ◌<◌, ◌-◌}
 use mathlib.Core.Bool.{true}
 use lib.ListN.{length}
-use mathlib.Core.Path.{◌≡◌, refl}
-use borrow.Author.Rules.{rules}
-use native.Mathlib.Omega.{arith}
-use Rattle.moves_take.proofs.pass_all.Reads as reads
-use Rattle.moves_take.proofs.pass_on.Reads as pass_on_reads
-use Rattle.store_words.proofs.shape.associations.Reads as associations_reads
-use Rattle.table_index.proofs.read.first_association.Reads as first_association_reads
-use Rattle.table_index.proofs.read.next_association.Reads as next_association_reads
+use mathlib.Core.Path.{◌≡◌}
 use Rattle.moves_take.proofs.pass_all.Given as goal
 
 abbrev pub invariant-loop-j : goal.invariant-loop-j

@@ -1,5 +1,4 @@
 -- `receive` meets its contract: by the sort, each its own; all but an interface and a sink sample first and then do it.
-use borrow.Author.Rules.{rules}
 use mathlib.Core.List.{[]}
 use mathlib.Core.Path.{sym, ◌∙◌}
 use Rattle.moves_take.proofs.Turns.{element_in, element_small, sampled_kept, record_fits, received_basic, received_interface, received_delay, received_sink, received_no_more}

@@ -1,7 +1,6 @@
 -- `start` meets its contract: a START that finds the delay due leaves it.
 use mathlib.Core.Path.{refl}
 use native.Mathlib.Omega.{arith}
-use borrow.Author.Rules.{rules}
 use Rattle.moves_take.proofs.Turns.{start_first, start_later}
 use Rattle.moves_take.proofs.start.Goals as goal
 

@@ -1,5 +1,4 @@
 -- `start_stop` meets its contract: START or STOP.
-use borrow.Author.Rules.{rules}
 use Rattle.moves_take.proofs.Turns.{delay_start, delay_stop}
 use Rattle.moves_take.proofs.start_stop.Goals as goal
 

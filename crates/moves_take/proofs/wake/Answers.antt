@@ -1,5 +1,4 @@
 -- `wake` meets its contract: the owner, then the running block.
-use borrow.Author.Rules.{rules}
 use Rattle.rules_moves.specs.Take.{wake}
 use Rattle.moves_take.proofs.wake.Goals as goal
 

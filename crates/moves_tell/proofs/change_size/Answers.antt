@@ -1,6 +1,5 @@
 -- `change_size` meets its contract.
 use Rattle.moves_tell.proofs.Telling.{change_none, change_some}
-use borrow.Author.Rules.{rules}
 use Rattle.moves_tell.proofs.change_size.Goals as goal
 
 pub action_number-requires : goal.action_number-requires

@@ -1,6 +1,5 @@
 -- `end_size` meets its contract.
 use Rattle.moves_tell.proofs.Telling.{end_one, end_both}
-use borrow.Author.Rules.{rules}
 use Rattle.moves_tell.proofs.end_size.Goals as goal
 
 pub returns-then-field-eq0 : goal.returns-then-field-eq0

@@ -3,7 +3,6 @@ use Prim.Native.Nat.{ℕ}
 use mathlib.Core.Path.{ap}
 use lib.Dec.{leb}
 use Rattle.moves_tell.proofs.laws.Sizing.{fits_most}
-use borrow.Author.Rules.{rules}
 use Rattle.moves_tell.proofs.fits.Goals as goal
 
 pub returns-then-room-ge-MOST : goal.returns-then-room-ge-MOST

@@ -3,7 +3,6 @@ use mathlib.Core.Path.{◌∙◌}
 use Rattle.rules_moves.proofs.laws.Next.{ready_transition, ready_action}
 use Rattle.moves_tell.proofs.laws.Telling.{is_good, is_ready}
 use Rattle.moves_tell.proofs.laws.Most.{take_bytes, change_bytes, idle_bytes, step_bytes, end_bytes, back_bytes, nothing_bytes}
-use borrow.Author.Rules.{rules}
 use Rattle.moves_tell.proofs.numbers_size.Goals as goal
 
 pub change_size-requires : goal.change_size-requires

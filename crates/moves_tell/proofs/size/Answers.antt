@@ -1,7 +1,6 @@
 -- `size` meets its contract: the frames of kinds 0 to 8 and the numbers, which are no more than the most.
 use native.Mathlib.Omega.{arith}
 use Rattle.moves_tell.proofs.laws.Sizing.{few_bytes, size_all}
-use borrow.Author.Rules.{rules}
 use Rattle.moves_tell.proofs.size.Goals as goal
 
 pub overflow_add-result : goal.overflow_add-result

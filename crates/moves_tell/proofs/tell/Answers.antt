@@ -4,7 +4,6 @@ use mathlib.Core.Path.{sym}
 use Rattle.rules_moves.proofs.laws.Next.{ready_input, ready_transition, ready_step, ready_action}
 use Rattle.moves_tell.proofs.laws.Told.{told_none, told_same, room_same}
 use Rattle.moves_tell.proofs.laws.Telling.{is_good, is_ready, change_in, idle_in, take_all, change_all, idle_all, step_all, end_all, back_all, nothing_all}
-use borrow.Author.Rules.{rules}
 use Rattle.moves_tell.proofs.tell.Goals as goal
 
 pub tell_take-requires : goal.tell_take-requires

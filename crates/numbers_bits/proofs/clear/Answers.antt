@@ -1,8 +1,5 @@
 -- `clear` meets its contract. The loop's invariant: the words below p are 0.
-use lib.ListN.{length, get_or}
-use mathlib.Core.Path.{◌≡◌}
 use native.Mathlib.Omega.{arith}
-use Prim.Native.Nat.{ℕ, ◌≤◌, ◌<◌, ◌-◌}
 use Rattle.numbers_bits.proofs.laws.Bit.{clear_all, clear_more}
 use borrow.Author.Rules.{rules}
 use Rattle.numbers_bits.proofs.clear.Goals as goal

@@ -1,9 +1,6 @@
 use lib.ListN.{length, get_or}
 use mathlib.Core.Path.{◌≡◌}
-use native.Mathlib.Omega.{arith}
 use Prim.Native.Nat.{ℕ, ◌≤◌, ◌<◌, ◌-◌}
-use Rattle.numbers_bits.proofs.laws.Bit.{clear_all, clear_more}
-use borrow.Author.Rules.{rules}
 use Rattle.numbers_bits.proofs.clear.Given as goal
 
 abbrev pub invariant-loop-p : goal.invariant-loop-p

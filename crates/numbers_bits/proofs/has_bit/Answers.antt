@@ -1,5 +1,4 @@
 -- `has_bit` meets its contract by definition.
-use borrow.Author.Rules.{rules}
 use Rattle.numbers_bits.specs.Bit.{bit_at}
 use mathlib.Core.Path.{refl}
 use Rattle.numbers_bits.proofs.has_bit.Goals as goal

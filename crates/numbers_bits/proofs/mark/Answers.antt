@@ -1,5 +1,4 @@
 -- `mark` meets its contract by those of `has_bit` and `with_bit`.
-use borrow.Author.Rules.{rules}
 use Rattle.numbers_bits.specs.Bit.{in_set, added}
 use Rattle.numbers_bits.proofs.mark.Goals as goal
 

@@ -1,5 +1,4 @@
 -- `with_bit` meets its contract: a one shifted by less than 32 places loses nothing.
-use borrow.Author.Rules.{rules}
 use Rattle.numbers_bits.specs.Bit.{raised}
 use mathlib.Core.Path.{ap, ◌∙◌}
 use native.Mathlib.Omega.{arith}

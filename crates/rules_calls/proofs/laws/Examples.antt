@@ -6,12 +6,11 @@ use Rattle.rules_walks.specs.Choose.{choose}
 use Rattle.rules_walks.specs.First.{first_from}
 use Rattle.rules_walks.specs.Walk.{up_to}
 use Rattle.rules_tables.specs.declared.Shape.{Shape}
-use Rattle.rules_tables.specs.Ids.{inputs, outputs, variables, transitions}
+use Rattle.rules_tables.specs.Ids.{inputs, outputs, variables}
 use Rattle.rules_store.specs.Layout.{need, element_at}
 use Rattle.rules_store.specs.Word.{now_of, put_now, running_element, current_event, running_of, spare_at, spare_word, due_flag, due_time, set_due, next_due, put_next}
 use Rattle.rules_store.specs.Due.{due_at, nothing_due, due_then, sooner, earliest, put_due}
 use Rattle.rules_store.specs.WellFormed.{spare_ok, is_next, next_ok, rest_ok, running_ok, parts_ok, well_formed}
-use Rattle.rules_moves.specs.Next.{move}
 use Rattle.rules_moves.specs.Take.{fire_found}
 use Rattle.rules_calls.specs.declared.Answer.TheVariants.{Refused, Ran}
 use Rattle.rules_calls.specs.Calls.{expired, expire, advanced, wrong_time, due_before, of_source, value_count}

@@ -1,5 +1,5 @@
 -- What firing an event does to the event inputs and the buffers, and what it leaves.
-use Rattle.std.specs.Prelude.{◌≡◌, Bool, ℕ, suc, ◌+◌, ◌≤◌, ◌<◌, length}
+use Rattle.std.specs.Prelude.{◌≡◌, Bool, ℕ, suc, ◌≤◌, ◌<◌, length}
 use Rattle.std.proofs.Math.Path.{refl, sym}
 use Rattle.std.proofs.Common.{◌∙◌, ⊎_elim, eq-or-lt_of_le, le_of_suc-le-suc, not-suc-le-zero}
 use mathlib.Core.List.{List}
@@ -24,7 +24,6 @@ use Rattle.rules_store.specs.Part.{Part, count, input, buffered, just, also, eve
 use Rattle.rules_store.proofs.laws.Part.{leaves_all, leaves_then}
 use Rattle.rules_tables.specs.Lawful.{Lawful, source, destination}
 use Rattle.rules_store.proofs.laws.Writer.{leaves_overwritten, leaves_input, leaves_buffer}
-use Rattle.rules_store.specs.Own.{Input}
 use Rattle.rules_store.proofs.laws.Own.{input_put, input_other, overwritten_put, buffer_put}
 use Rattle.rules_moves.specs.Carry.{voice_of, carries}
 use Rattle.rules_moves.specs.Reached.{Reached}

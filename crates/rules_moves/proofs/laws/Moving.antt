@@ -1,5 +1,5 @@
 -- What the moves of a running block leave.
-use Rattle.std.specs.Prelude.{◌≡◌, refl, List, Bool, true, ℕ, ◌+◌, ◌-◌, ◌≤◌, ◌<◌, pos, length}
+use Rattle.std.specs.Prelude.{◌≡◌, refl, List, Bool, true, ℕ, ◌+◌, ◌-◌, ◌≤◌, ◌<◌, length}
 use Rattle.std.proofs.Common.{sym, ap, ◌∙◌, arith}
 use Rattle.rules_walks.proofs.laws.Pick.{clash, by_test}
 use Rattle.rules_numbers.specs.Word.{word}
@@ -9,7 +9,7 @@ use Rattle.rules_store.specs.declared.Running.{Running}
 use Rattle.rules_tables.specs.Ids.{elements, steps, transition_frame, step_frame}
 use Rattle.rules_store.specs.Layout.{need}
 use Rattle.rules_store.specs.Running.{rest, entered}
-use Rattle.rules_store.specs.Word.{counted, put_owner, running_of, put_running, untrue, put_chart_state, value}
+use Rattle.rules_store.specs.Word.{counted, put_owner, running_of, put_running, untrue, put_chart_state}
 use Rattle.rules_store.specs.Part.{Part, block, count, untrues, chart as «charts», input, computed, buffered, just, Leaves}
 use Rattle.rules_store.proofs.laws.Part.{leaves_then}
 use Rattle.rules_tables.specs.Lawful.{Lawful}

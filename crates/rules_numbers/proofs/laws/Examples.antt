@@ -1,5 +1,5 @@
 -- Computed examples: what no law says of the rules of numbers, so that code and definition cannot change it together.
-use Rattle.std.specs.Prelude.{◌≡◌, refl, Bool, true, false, List, [], ◌∷◌, map, ℕ, ℤ, pos, negsuc}
+use Rattle.std.specs.Prelude.{◌≡◌, refl, Bool, true, false, [], ◌∷◌, map, ℕ, ℤ, pos, negsuc}
 use Rattle.rules_walks.specs.Choose.{choose}
 use Rattle.rules_numbers.specs.Bytes.{half_at, word_at, half_bytes, word_bytes}
 use Rattle.rules_numbers.specs.Clip.{lowest, highest, clip, quotient, least, greatest}

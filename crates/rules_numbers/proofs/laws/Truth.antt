@@ -1,13 +1,12 @@
 -- When a result is the true one, in terms of the signed range: exactly where the operation has a true value and that lies in the range. So what is not true was
 -- clipped, or divided by zero.
-use Rattle.std.specs.Prelude.{◌≡◌, Bool, true, false, List, [], ◌∷◌, ℕ, zero, suc, ◌≤◌, ◌<◌, ℤ, pos, negsuc, ◌+ℤ◌, ◌-ℤ◌, get_or}
+use Rattle.std.specs.Prelude.{◌≡◌, Bool, true, false, List, [], ◌∷◌, ℕ, zero, suc, ◌≤◌, ℤ, pos, negsuc, get_or}
 use Rattle.std.proofs.Math.Path.{refl}
-use Rattle.std.proofs.Common.{sym, ap, subst, ◌∙◌, ⊎_elim, arith}
+use Rattle.std.proofs.Common.{sym, ap, subst, ◌∙◌, arith}
 use Rattle.std.specs.Int.Signed.{lt_z, le_z_yes}
 use Rattle.rules_walks.proofs.laws.Choose.{by_choose}
-use Rattle.rules_walks.proofs.laws.Pick.{clash, test_cases}
+use Rattle.rules_walks.proofs.laws.Pick.{clash}
 use Rattle.rules_numbers.specs.Clip.{InRange, clip, quotient, least, greatest}
-use Rattle.rules_numbers.specs.Equal.{eq_z}
 use Rattle.rules_numbers.proofs.laws.Equal.{equal_same, equal_self}
 use Rattle.rules_numbers.proofs.laws.Nearest.{clip_nearest}
 use Rattle.rules_numbers.specs.Operation.{operations, operation}

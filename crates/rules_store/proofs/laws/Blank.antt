@@ -1,5 +1,5 @@
 -- A zeroed store is blank.
-use Rattle.std.specs.Prelude.{refl, List, ℕ, ◌+◌, ◌≤◌, length, get_or, set}
+use Rattle.std.specs.Prelude.{refl, List, ℕ, ◌+◌, ◌≤◌, length, set}
 use Rattle.std.proofs.Common.{◌∙◌, ⊎_elim, eq-or-lt_of_le, le_of_suc-le-suc, not-suc-le-zero, arith, length-set, get_or-set_same, get_or-set_other}
 use Rattle.rules_walks.proofs.laws.Walk.{up_to_carries}
 use Rattle.rules_tables.specs.declared.Shape.{Shape}

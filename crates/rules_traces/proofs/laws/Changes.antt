@@ -1,17 +1,16 @@
 -- What each move changes of chart states and values, from the store before it. Rests on what each change leaves (rules_moves, laws) and on the store having
 -- its need.
-use Rattle.std.specs.Prelude.{◌≡◌, Bool, true, false, ℕ, ◌+◌, ◌-◌, ◌≤◌, ◌<◌, eqb, length}
+use Rattle.std.specs.Prelude.{◌≡◌, Bool, true, false, ℕ, ◌≤◌, ◌<◌, eqb, length}
 use Rattle.std.proofs.Math.Path.{refl, ap}
 use Rattle.std.proofs.Common.{sym, ◌∙◌, arith, eq-eqb, ne_eqb, eqb-true}
 use mathlib.Core.List.{List, [], ◌∷◌, ◌++◌, append-nil}
 use Rattle.std.proofs.lemmas.Bool.{eqb-false}
 use Rattle.rules_walks.proofs.laws.Pick.{clash}
 use Rattle.rules_walks.proofs.laws.Choose.{choose_true, choose_false, by_choose}
-use Rattle.rules_walks.specs.First.{one}
 use Rattle.rules_tables.specs.Kind.{input, output, internal}
 use Rattle.rules_tables.specs.Frame.{flag_at, field_at}
 use Rattle.rules_tables.specs.declared.Shape.{Shape}
-use Rattle.rules_tables.specs.Ids.{elements, variables, steps, variable_frame, transition_frame}
+use Rattle.rules_tables.specs.Ids.{elements, variables, variable_frame, transition_frame}
 use Rattle.rules_tables.specs.Lawful.{Lawful}
 use Rattle.rules_tables.specs.Actions.{action_number}
 use Rattle.rules_store.specs.declared.Running.{Running}

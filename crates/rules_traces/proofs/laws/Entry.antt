@@ -1,5 +1,5 @@
 -- Laws of frames one after another: how long they are, and how they grow. A frame has 12 bytes, a line 24 digits and its end.
-use Rattle.std.specs.Prelude.{◌≡◌, refl, List, [], ◌∷◌, ◌++◌, ℕ, zero, suc, ◌+◌, ◌*◌, length}
+use Rattle.std.specs.Prelude.{◌≡◌, refl, List, [], ◌∷◌, ◌++◌, ℕ, zero, suc, ◌*◌, length}
 use Rattle.std.proofs.Common.{sym, ap, ◌∙◌, append_assoc, arith, length-append}
 use Rattle.rules_numbers.specs.Bytes.{half_bytes, word_bytes}
 use Rattle.rules_tables.specs.Frame.{Table}

@@ -1,5 +1,5 @@
 -- Laws of lists put together: which of them matter, and how long they are.
-use Rattle.std.specs.Prelude.{◌≡◌, List, [], ◌++◌, Bool, true, false, length}
+use Rattle.std.specs.Prelude.{◌≡◌, List, [], ◌++◌, Bool, false, length}
 use Rattle.std.proofs.Math.Path.{refl}
 use Rattle.std.proofs.Common.{ap, ◌∙◌, append-nil, eq-or-lt_of_le, le_of_suc-le-suc, add-one, length-append}
 use Rattle.std.proofs.Math.Logic.{⊎_elim}

@@ -4,7 +4,7 @@ use Rattle.std.specs.Prelude.{◌≡◌, Bool, true, false, eqb, length}
 use Rattle.std.proofs.Math.Path.{refl, ap, subst}
 use Rattle.std.proofs.Common.{sym, ◌∙◌, arith}
 use mathlib.Core.List.{List, [], ◌++◌, append-nil}
-use Prim.Native.Nat.{ℕ, ◌+◌, ◌≤◌, ◌<◌}
+use Prim.Native.Nat.{ℕ, ◌≤◌, ◌<◌}
 use borrow.Author.Tests.{eq-eqb, ne_eqb, eqb-true, eqb-false}
 use Rattle.rules_walks.proofs.laws.Pick.{both_left, both_right}
 use Rattle.rules_walks.specs.Choose.{choose}
@@ -18,15 +18,15 @@ use Rattle.rules_tables.specs.Ids.{elements, inputs, variables, associations, as
 use Rattle.rules_tables.specs.Lawful.{Lawful}
 use Rattle.rules_store.specs.Layout.{need}
 use Rattle.rules_store.specs.Word.{chart_state, value, buffer, birth_of}
-use Rattle.rules_store.specs.Part.{Part, block, count, chart, due, sampled as «samples_part», computed, buffered, just, also, everything, Leaves}
+use Rattle.rules_store.specs.Part.{Part, block, count, due, sampled as «samples_part», computed, buffered, just, also, everything, Leaves}
 use Rattle.rules_store.specs.Part.{input as «inputs_part»}
-use Rattle.rules_store.proofs.laws.Part.{leaves_all, leaves_then}
+use Rattle.rules_store.proofs.laws.Part.{leaves_all}
 use Rattle.rules_moves.specs.Partner.{input_owner, variable_owner, partner_variable}
 use Rattle.rules_moves.proofs.laws.Partner.{partner_output_lem}
 use Rattle.rules_moves.specs.Carry.{voice, speaks}
 use Rattle.rules_moves.proofs.laws.Carry.{of_input_lem}
 use Rattle.rules_moves.specs.Associated.{joins_variable, associated}
-use Rattle.rules_moves.specs.Take.{sampled, passes, start_stop, wake, settle, settled, fired_by, fire_found, taken}
+use Rattle.rules_moves.specs.Take.{sampled, passes, start_stop, wake, settle, settled, fired_by, taken}
 use Rattle.rules_moves.proofs.laws.Taking.{sampled_value, sampled_leaves, passes_leaves, start_stop_leaves, wake_leaves, settled_leaves, fire_found_leaves}
 use Rattle.rules_traces.specs.Gather.{gather}
 use Rattle.rules_traces.specs.Kinds.{input_kind, output_kind, internal_kind}

@@ -1,8 +1,6 @@
 -- `read_all` is safe and ends: the measure is the number of turns that are left. The invariant: no text waits between two reads.
-use lib.ListN.{length}
-use mathlib.Core.Path.{◌≡◌, ◌∙◌}
+use mathlib.Core.Path.{◌∙◌}
 use native.Mathlib.Omega.{arith}
-use borrow.Author.Rules.{rules}
 use Rattle.session_watch.proofs.read_all.Goals as goal
 
 pub overflow_sub-turns : goal.overflow_sub-turns

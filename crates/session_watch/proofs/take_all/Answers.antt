@@ -4,8 +4,7 @@ use lib.Seq.{length-take-le}
 use mathlib.Core.List.{List}
 use mathlib.Core.Path.{◌≡◌, refl, ap, ◌∙◌}
 use native.Mathlib.Omega.{arith}
-use Prim.Native.Nat.{ℕ, ◌≤◌, ◌<◌, ◌-◌, ◌+◌}
-use borrow.Author.Rules.{rules}
+use Prim.Native.Nat.{ℕ, ◌<◌, ◌-◌, ◌+◌}
 use Rattle.session_watch.proofs.take_all.Goals as goal
 
 one_byte : (L : List ℕ) (i : ℕ) → i < length L → length (take (i + 1 - i) (drop i L)) ≡ 1

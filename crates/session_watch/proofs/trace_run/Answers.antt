@@ -1,12 +1,9 @@
 -- `trace_run` is safe and ends: a piece that is followed by another has made moves, so less of the budget is left. The invariant: the output has what is left of it.
 use Rattle.session_trace.proofs.laws.Pieces.{goes_moves}
 use borrow.Rule.Slice.PartMut.{same_len_mid}
-use borrow.Author.Tests.{not-false}
-use lib.ListN.{length}
-use mathlib.Core.Path.{◌≡◌, refl, sym, ◌∙◌}
+use mathlib.Core.Path.{sym, ◌∙◌}
 use native.Mathlib.Omega.{arith}
-use Prim.Native.Nat.{ℕ, ◌≤◌, ◌-◌}
-use borrow.Author.Rules.{rules}
+use Prim.Native.Nat.{ℕ, ◌-◌}
 use Rattle.session_watch.proofs.trace_run.Goals as goal
 
 pub overflow_sub-left : goal.overflow_sub-left

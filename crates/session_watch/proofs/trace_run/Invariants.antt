@@ -1,11 +1,6 @@
-use Rattle.session_trace.proofs.laws.Pieces.{goes_moves}
-use borrow.Rule.Slice.PartMut.{same_len_mid}
-use borrow.Author.Tests.{not-false}
 use lib.ListN.{length}
-use mathlib.Core.Path.{◌≡◌, refl, sym, ◌∙◌}
-use native.Mathlib.Omega.{arith}
-use Prim.Native.Nat.{ℕ, ◌≤◌, ◌-◌}
-use borrow.Author.Rules.{rules}
+use mathlib.Core.Path.{◌≡◌}
+use Prim.Native.Nat.{◌≤◌}
 use Rattle.session_watch.proofs.trace_run.Given as goal
 
 abbrev pub invariant-loop-out : goal.invariant-loop-out

@@ -1,7 +1,6 @@
 -- `make_room` meets its contract: the text is written, or has room.
 use Rattle.session_dialogue.proofs.laws.Whole.{written_keeps}
 use native.Mathlib.Omega.{arith}
-use borrow.Author.Rules.{rules}
 use Rattle.step.proofs.make_room.Goals as goal
 
 pub returns-then-text-s-lt-END_ROOM : goal.returns-then-text-s-lt-END_ROOM

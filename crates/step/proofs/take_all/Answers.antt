@@ -1,13 +1,12 @@
 -- `take_all` meets its contract. The invariant: the bytes before `from` were taken, and there is room for what the next byte or the end may print.
 -- a test that fails and passes
-use Rattle.rules_sessions.specs.Reading.{Reading, after_bytes}
-use Rattle.session_dialogue.specs.Standing.{KeepsUp}
+use Rattle.rules_sessions.specs.Reading.{after_bytes}
 use Rattle.session_dialogue.proofs.laws.Whole.{none_keeps, fed_keeps, all_keeps}
 use mathlib.Core.Bool.{Bool, true, false}
-use lib.ListN.{length, take}
+use lib.ListN.{take}
 use mathlib.Core.Path.{◌≡◌, refl, sym, ap, ◌∙◌}
 use native.Mathlib.Omega.{arith}
-use Prim.Native.Nat.{ℕ, ◌≤◌, ◌-◌, ◌+◌}
+use Prim.Native.Nat.{ℕ, ◌+◌}
 use borrow.Author.Rules.{rules}
 use Rattle.step.proofs.take_all.Goals as goal
 

@@ -1,12 +1,8 @@
 use Rattle.rules_sessions.specs.Reading.{Reading, after_bytes}
 use Rattle.session_dialogue.specs.Standing.{KeepsUp}
-use Rattle.session_dialogue.proofs.laws.Whole.{none_keeps, fed_keeps, all_keeps}
-use mathlib.Core.Bool.{Bool, true, false}
 use lib.ListN.{length, take}
-use mathlib.Core.Path.{◌≡◌, refl, sym, ap, ◌∙◌}
-use native.Mathlib.Omega.{arith}
-use Prim.Native.Nat.{ℕ, ◌≤◌, ◌-◌, ◌+◌}
-use borrow.Author.Rules.{rules}
+use mathlib.Core.Path.{◌≡◌}
+use Prim.Native.Nat.{◌≤◌, ◌-◌, ◌+◌}
 use Rattle.step.proofs.take_all.Given as goal
 
 abbrev pub invariant-loop-from : goal.invariant-loop-from

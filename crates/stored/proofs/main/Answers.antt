@@ -2,7 +2,6 @@
 use lib.ListN.{length, length-take}
 use mathlib.Core.Path.{ap}
 use native.Mathlib.Omega.{arith}
-use borrow.Author.Rules.{rules}
 use Rattle.stored.proofs.main.Goals as goal
 
 pub tell_all-requires : goal.tell_all-requires

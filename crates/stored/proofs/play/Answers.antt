@@ -1,12 +1,10 @@
 -- `play` is safe and ends: the measure is what is left of the session.
 -- past a mark, or at the end
-use lib.ListN.{length}
-use mathlib.Core.Path.{◌≡◌, refl}
+use mathlib.Core.Path.{refl}
 use native.Mathlib.Omega.{arith}
 use Prim.Native.Nat.{ℕ, ◌≤◌, ◌<◌, ◌-◌}
 use mathlib.Core.Logic.{⊎_elim}
 use native.Mathlib.Nat.{eq-or-lt_of_le}
-use borrow.Author.Rules.{rules}
 use Rattle.stored.proofs.play.Goals as goal
 
 lesser : (n from to next : ℕ) → from < n → from ≤ to → to ≤ n → to ≤ next → (to < n → to < next) → n - next < n - from

@@ -2,8 +2,7 @@
 use mathlib.Core.Path.{sym, ◌∙◌}
 use Prim.Native.Nat.{◌+◌}
 use lib.ListN.{length}
-use borrow.Author.Tests.{leb-true, not-false}
-use borrow.Author.Rules.{rules}
+use borrow.Author.Tests.{leb-true}
 use Rattle.stored.proofs.take_rest.Goals as goal
 
 pub finish-requires : goal.finish-requires

@@ -2,10 +2,8 @@
 -- a mark before the end takes the place on
 use mathlib.Core.Logic.{⊎_elim}
 use native.Mathlib.Nat.{eq-or-lt_of_le}
-use Prim.Native.Nat.{◌≤◌, ◌-◌, ℕ, ◌<◌}
-use lib.ListN.{length}
+use Prim.Native.Nat.{◌≤◌, ℕ, ◌<◌}
 use native.Mathlib.Omega.{arith}
-use borrow.Author.Rules.{rules}
 use Rattle.stored.proofs.tell_all.Goals as goal
 
 past : (from to n answer : ℕ) → from < n → from ≤ to → to ≤ n → to ≤ answer → (to < n → to < answer) → from < answer

@@ -1,9 +1,5 @@
-use mathlib.Core.Logic.{⊎_elim}
-use native.Mathlib.Nat.{eq-or-lt_of_le}
-use Prim.Native.Nat.{◌≤◌, ◌-◌, ℕ, ◌<◌}
+use Prim.Native.Nat.{◌≤◌, ◌-◌}
 use lib.ListN.{length}
-use native.Mathlib.Omega.{arith}
-use borrow.Author.Rules.{rules}
 use Rattle.stored.proofs.tell_all.Given as goal
 
 abbrev pub invariant-loop-from : goal.invariant-loop-from

@@ -1,5 +1,4 @@
 -- By the test of the length: the answer of the passes, or refusal 1. The numbers of the answer are those of the verdict.
-use borrow.Author.Rules.{rules}
 use Rattle.rules_tables.specs.Frame.{frames_of}
 use Rattle.rules_tables.specs.Judge.{judge, scan_to, refusal_number, faulty_frame}
 use Rattle.rules_tables.proofs.laws.Judge.{numbers, length_few}

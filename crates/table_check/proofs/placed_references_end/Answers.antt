@@ -1,5 +1,4 @@
 -- Every frame stands where it belongs (`located_all`).
-use borrow.Author.Rules.{rules}
 use Rattle.table_frames.proofs.laws.Placed.{located_all}
 use native.Mathlib.Omega.{arith}
 use Rattle.table_check.proofs.placed_references_end.Goals as goal

@@ -1,5 +1,4 @@
 -- Where all frames have their form, the table is in order (`located_none`).
-use borrow.Author.Rules.{rules}
 use Rattle.table_frames.proofs.laws.Placed.{located_none}
 use lib.ListN.{length}
 use mathlib.Core.Path.{◌≡◌, refl}

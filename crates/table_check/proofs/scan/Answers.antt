@@ -1,5 +1,4 @@
 -- Each pass ends at its first fault; the three ends together are the verdict (the passed-.. laws).
-use borrow.Author.Rules.{rules}
 use Rattle.rules_walks.proofs.laws.Held.{held_all, held_means}
 use Rattle.rules_tables.specs.Form.{form_ok}
 use Rattle.rules_tables.specs.Reference.{refers_ok}

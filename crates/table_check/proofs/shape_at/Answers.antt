@@ -1,5 +1,4 @@
 -- The starts at hand are those of the table, kind by kind.
-use borrow.Author.Rules.{rules}
 use native.Mathlib.Omega.{arith}
 use Rattle.table_check.proofs.shape_at.Goals as goal
 

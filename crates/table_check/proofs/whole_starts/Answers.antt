@@ -1,5 +1,4 @@
 -- Where all frames have their form, their starts are the table's (`starts_whole`).
-use borrow.Author.Rules.{rules}
 use Rattle.table_frames.proofs.laws.Placed.{starts_whole}
 use native.Mathlib.Omega.{arith}
 use Rattle.table_check.proofs.whole_starts.Goals as goal

@@ -1,5 +1,5 @@
 -- The code's table of forms is the rules' one.
-use Rattle.std.specs.Prelude.{◌≡◌, List, [], map, ℕ, get_or}
+use Rattle.std.specs.Prelude.{◌≡◌, [], map, ℕ, get_or}
 use Rattle.std.proofs.Common.{ap}
 use Rattle.std.proofs.Math.ListN.{get_or-map}
 use Rattle.rules_tables.specs.Form.{form, forms, form_of}

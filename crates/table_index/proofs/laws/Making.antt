@@ -4,7 +4,7 @@ use Rattle.std.proofs.Common.{◌∙◌, ⊎_elim, inl, inr}
 use native.Mathlib.Omega.{arith}
 use Rattle.rules_tables.specs.Frame.{flag_at, field_at}
 use Rattle.rules_tables.specs.declared.Shape.{Shape}
-use Rattle.rules_tables.specs.Ids.{first_output, first_variable, first_association, first_transition, first_action, first_connection, first_link, outputs, variables, associations, states, transitions, actions, connections, links}
+use Rattle.rules_tables.specs.Ids.{first_output, first_variable, first_association, first_transition, first_action, first_connection, first_link, outputs, variables, associations, transitions, actions, connections, links}
 use Rattle.rules_tables.specs.Lawful.{Lawful}
 use Rattle.table_index.specs.Chain.{owner_at, Chained, Apart}
 use Rattle.table_index.proofs.laws.Chain.{chained_apart}

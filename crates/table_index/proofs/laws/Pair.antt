@@ -1,5 +1,5 @@
 -- How the partners are found, frame by frame.
-use Rattle.std.specs.Prelude.{◌≡◌, List, Bool, ◌⊎◌, ℕ, ◌+◌, ◌≤◌, ◌<◌, eqb, ltb, length, get_or, set}
+use Rattle.std.specs.Prelude.{◌≡◌, List, Bool, ℕ, ◌+◌, ◌≤◌, ◌<◌, eqb, ltb, length, get_or, set}
 use Rattle.std.proofs.Math.Path.{refl, sym}
 use Rattle.std.proofs.Common.{ap, ◌∙◌, arith, get_or-set_same}
 use Rattle.std.proofs.Math.Bool.{true, false}

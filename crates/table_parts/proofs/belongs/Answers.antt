@@ -1,5 +1,4 @@
 -- `belongs` meets its contract: the flag first, then the owner.
-use borrow.Author.Rules.{rules}
 use Rattle.rules_tables.specs.Owned.{belongs}
 use borrow.Author.Tests.{eq-eqb, ne_eqb}
 use Rattle.table_parts.proofs.belongs.Goals as goal

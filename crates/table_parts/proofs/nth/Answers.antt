@@ -1,16 +1,13 @@
 -- `nth` meets its contract. The invariant: c counts the frames passed that belong, and the search goes on from frame j.
-use Rattle.rules_tables.specs.Owned.{belongs, is_nth}
+use Rattle.rules_tables.specs.Owned.{is_nth}
 use Rattle.table_parts.specs.Found.{found_of}
-use Rattle.rules_walks.specs.Count.{count_if}
 use Rattle.rules_walks.proofs.laws.Count.{count_none, count_hit, count_miss}
-use Rattle.rules_walks.specs.First.{first_from, first_below}
 use Rattle.rules_walks.proofs.laws.First.{first_start, first_skip, first_hit, first_none}
 use borrow.Author.Rules.{rules}
 use borrow.Author.Tests.{eq-eqb, ne_eqb}
-use mathlib.Core.Logic.{⊎_elim}
-use mathlib.Core.Path.{◌≡◌, sym, ap, ◌∙◌}
+use mathlib.Core.Path.{sym, ap, ◌∙◌}
 use native.Mathlib.Omega.{arith}
-use Prim.Native.Nat.{ℕ, ◌≤◌, ◌<◌, ◌-◌, ◌+◌}
+use Prim.Native.Nat.{ℕ, ◌≤◌, ◌<◌, ◌+◌}
 use Rattle.table_parts.proofs.nth.Goals as goal
 use Rattle.table_parts.proofs.nth.Goals.{else-belongs, then-belongs+else-c-k}
 

@@ -1,15 +1,8 @@
 use Rattle.rules_tables.specs.Owned.{belongs, is_nth}
-use Rattle.table_parts.specs.Found.{found_of}
 use Rattle.rules_walks.specs.Count.{count_if}
-use Rattle.rules_walks.proofs.laws.Count.{count_none, count_hit, count_miss}
 use Rattle.rules_walks.specs.First.{first_from, first_below}
-use Rattle.rules_walks.proofs.laws.First.{first_start, first_skip, first_hit, first_none}
-use borrow.Author.Rules.{rules}
-use borrow.Author.Tests.{eq-eqb, ne_eqb}
-use mathlib.Core.Logic.{⊎_elim}
-use mathlib.Core.Path.{◌≡◌, sym, ap, ◌∙◌}
-use native.Mathlib.Omega.{arith}
-use Prim.Native.Nat.{ℕ, ◌≤◌, ◌<◌, ◌-◌, ◌+◌}
+use mathlib.Core.Path.{◌≡◌}
+use Prim.Native.Nat.{◌≤◌, ◌-◌}
 use Rattle.table_parts.proofs.nth.Given as goal
 
 abbrev pub invariant-loop-j : goal.invariant-loop-j

@@ -1,12 +1,9 @@
 -- `rank` meets its contract. The invariant: c counts the frames passed that belong.
-use Rattle.rules_tables.specs.Owned.{belongs}
-use Rattle.rules_walks.specs.Count.{count_if}
 use Rattle.rules_walks.proofs.laws.Count.{count_none, count_hit, count_miss}
 use borrow.Author.Rules.{rules}
-use mathlib.Core.Logic.{⊎_elim}
 use mathlib.Core.Path.{◌≡◌, sym, ap, ◌∙◌}
 use native.Mathlib.Omega.{arith}
-use Prim.Native.Nat.{ℕ, ◌≤◌, ◌-◌, ◌+◌}
+use Prim.Native.Nat.{ℕ, ◌+◌}
 use Rattle.table_parts.proofs.rank.Goals as goal
 use Rattle.table_parts.proofs.rank.Goals.{else-belongs, then-belongs}
 

@@ -1,11 +1,7 @@
 use Rattle.rules_tables.specs.Owned.{belongs}
 use Rattle.rules_walks.specs.Count.{count_if}
-use Rattle.rules_walks.proofs.laws.Count.{count_none, count_hit, count_miss}
-use borrow.Author.Rules.{rules}
-use mathlib.Core.Logic.{⊎_elim}
-use mathlib.Core.Path.{◌≡◌, sym, ap, ◌∙◌}
-use native.Mathlib.Omega.{arith}
-use Prim.Native.Nat.{ℕ, ◌≤◌, ◌-◌, ◌+◌}
+use mathlib.Core.Path.{◌≡◌}
+use Prim.Native.Nat.{◌≤◌, ◌-◌}
 use Rattle.table_parts.proofs.rank.Given as goal
 
 abbrev pub invariant-loop-i : goal.invariant-loop-i

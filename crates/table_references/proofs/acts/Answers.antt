@@ -1,7 +1,7 @@
 -- Each return is the definition with the tests passed so far put in, in the order of the code. The state exists where its owner is read.
 use borrow.Author.Rules.{rules}
 use Rattle.rules_tables.specs.Reference.{acts}
-use borrow.Author.Tests.{ltb-true, not-true, not-false}
+use borrow.Author.Tests.{ltb-true}
 use mathlib.Core.Path.{sym, ◌∙◌}
 use Rattle.table_references.proofs.acts.Goals as goal
 

@@ -1,5 +1,4 @@
 -- The definition at both outcomes of the first test.
-use borrow.Author.Rules.{rules}
 use Rattle.rules_tables.specs.Reference.{connects_events}
 use Rattle.table_references.proofs.connects_events.Goals as goal
 

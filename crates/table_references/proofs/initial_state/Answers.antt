@@ -1,5 +1,4 @@
 -- The answer is the definition at the flag and the field read; the element's id is its frame by what the caller knows.
-use borrow.Author.Rules.{rules}
 use Rattle.rules_tables.specs.Reference.{initial_state}
 use borrow.Author.Tests.{eq-eqb, ne_eqb}
 use Rattle.table_references.proofs.initial_state.Goals as goal

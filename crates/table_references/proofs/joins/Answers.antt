@@ -2,7 +2,7 @@
 use borrow.Author.Rules.{rules}
 use Rattle.rules_tables.specs.Place.{owned_by}
 use Rattle.rules_tables.specs.Reference.{joins}
-use borrow.Author.Tests.{ltb-true, eq-eqb, ne_eqb, not-true, not-false}
+use borrow.Author.Tests.{ltb-true, eq-eqb, ne_eqb}
 use mathlib.Core.Path.{sym, ◌∙◌}
 use Rattle.table_references.proofs.joins.Goals as goal
 

@@ -1,5 +1,4 @@
 -- The definition at both outcomes of the test for none.
-use borrow.Author.Rules.{rules}
 use Rattle.rules_tables.specs.Reference.{maybe_owned}
 use borrow.Author.Tests.{eq-eqb, ne_eqb}
 use Rattle.table_references.proofs.maybe_owned.Goals as goal

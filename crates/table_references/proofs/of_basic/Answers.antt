@@ -1,5 +1,4 @@
 -- The answer is the definition at the field read.
-use borrow.Author.Rules.{rules}
 use Rattle.rules_tables.specs.Reference.{of_basic}
 use Rattle.table_references.proofs.of_basic.Goals as goal
 

@@ -1,16 +1,8 @@
-use borrow.Author.Rules.{rules}
 use Rattle.rules_walks.specs.All.{all_to}
-use Rattle.rules_walks.proofs.laws.All.{all_none, all_more}
-use Rattle.rules_walks.proofs.laws.Held.{held_stop, held_end}
-use Rattle.rules_tables.proofs.laws.Formed.{element_own}
 use Rattle.rules_tables.specs.Reference.{refers_ok}
 use Rattle.table_references.specs.Known.{Known}
-use Rattle.table_references.proofs.laws.Known.{known_none, acts_kind}
-use borrow.Author.Tests.{not-true, not-false}
 use mathlib.Core.Bool.{true}
-use mathlib.Core.Logic.{⊎_elim}
-use mathlib.Core.Path.{◌≡◌, sym, ◌∙◌}
-use native.Mathlib.Omega.{arith}
+use mathlib.Core.Path.{◌≡◌}
 use Prim.Native.Nat.{◌≤◌, ◌-◌}
 use Rattle.table_references.proofs.references_end.Given as goal
 

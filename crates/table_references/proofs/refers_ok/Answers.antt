@@ -1,5 +1,4 @@
 -- Each arm is the definition at its kind, the last one at none of the eight others.
-use borrow.Author.Rules.{rules}
 use Rattle.rules_tables.specs.Reference.{refers_ok, refers_as}
 use borrow.Author.Tests.{ne_eqb}
 use Rattle.table_references.proofs.refers_ok.Goals as goal

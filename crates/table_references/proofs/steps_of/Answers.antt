@@ -1,5 +1,4 @@
 -- The definition at each outcome of the two tests; the count of steps is the table's. What is known of the steps from b on is known of the first of them.
-use borrow.Author.Rules.{rules}
 use Rattle.rules_tables.specs.Reference.{steps_of}
 use Rattle.table_references.proofs.laws.Known.{known_results}
 use borrow.Author.Tests.{le-leb, lt-leb, eq-eqb, ne_eqb}

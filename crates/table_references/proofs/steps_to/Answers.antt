@@ -1,7 +1,7 @@
 -- Each return is the definition with the tests passed so far put in, in the order of the code. The result exists where its frame is read.
 use borrow.Author.Rules.{rules}
 use Rattle.rules_tables.specs.Reference.{steps_to}
-use borrow.Author.Tests.{ltb-true, eq-eqb, ne_eqb, not-true, not-false}
+use borrow.Author.Tests.{ltb-true, eq-eqb, ne_eqb}
 use mathlib.Core.Path.{sym, ◌∙◌}
 use Rattle.table_references.proofs.steps_to.Goals as goal
 

@@ -1,5 +1,4 @@
 -- The definition at both outcomes of the test; the number of used fields is the caller's.
-use borrow.Author.Rules.{rules}
 use Rattle.rules_tables.specs.Reference.{uses_own}
 use borrow.Author.Tests.{le-leb, lt-leb}
 use Rattle.table_references.proofs.uses_own.Goals as goal

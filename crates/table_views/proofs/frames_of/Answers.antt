@@ -1,5 +1,4 @@
 -- The stretch of the span of the kind.
-use borrow.Author.Rules.{rules}
 use Rattle.table_views.proofs.frames_of.Goals as goal
 
 pub returns : goal.returns

@@ -1,5 +1,4 @@
 -- The frames of a kind of an accepted table stand in one stretch, which lies in the table; else there is nothing (Views).
-use borrow.Author.Rules.{rules}
 use Rattle.table_views.proofs.laws.Views.{kind_refused, kind_low, kind_high, few_frames, kind_in}
 use mathlib.Core.Path.{sym, ◌∙◌}
 use native.Mathlib.Omega.{arith}

@@ -1,5 +1,4 @@
 -- The stretch of the span of the action.
-use borrow.Author.Rules.{rules}
 use Rattle.table_views.proofs.steps_of.Goals as goal
 
 pub returns : goal.returns

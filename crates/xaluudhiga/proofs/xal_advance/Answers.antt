@@ -1,5 +1,4 @@
 -- The answer of `advance`, whose number and frame fit one number (Bounds).
-use borrow.Author.Rules.{rules}
 use Rattle.rules_calls.proofs.laws.Compact.{advance_compact}
 use Rattle.xaluudhiga.proofs.xal_advance.Goals as goal
 

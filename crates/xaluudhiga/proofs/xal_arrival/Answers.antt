@@ -1,5 +1,4 @@
 -- The answer of `arrival`, whose number and frame fit one number (Bounds).
-use borrow.Author.Rules.{rules}
 use Rattle.rules_calls.proofs.laws.Compact.{arrival_compact}
 use Rattle.xaluudhiga.proofs.xal_arrival.Goals as goal
 

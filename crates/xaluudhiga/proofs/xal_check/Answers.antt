@@ -1,5 +1,4 @@
 -- The check's answer, taken apart as the calls do it; its number and frame fit one number (Bounds).
-use borrow.Author.Rules.{rules}
 use mathlib.Core.Path.{ap, ◌∙◌}
 use Rattle.rules_calls.specs.Answer.{refused_of}
 use Rattle.rules_calls.specs.Exports.{packed}

@@ -1,5 +1,4 @@
 -- The span is the defined one, and lies in the table, so its bytes are numbers that the machine can hold.
-use borrow.Author.Rules.{rules}
 use mathlib.Core.Path.{ap}
 use Prim.Native.Nat.{◌*◌}
 use Rattle.rules_tables.specs.declared.Span.{Span}

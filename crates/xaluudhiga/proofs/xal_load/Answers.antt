@@ -1,5 +1,4 @@
 -- The answer of `load`, whose number and frame fit one number (Bounds).
-use borrow.Author.Rules.{rules}
 use Rattle.rules_calls.proofs.laws.Compact.{load_compact}
 use Rattle.xaluudhiga.proofs.xal_load.Goals as goal
 

@@ -1,5 +1,4 @@
 -- The need of an accepted table's shape, else 0.
-use borrow.Author.Rules.{rules}
 use Rattle.store_words.proofs.laws.Small.{small}
 use Rattle.rules_calls.proofs.laws.Checked.{ready, need_faulty, need_sound}
 use Rattle.xaluudhiga.proofs.xal_need.Goals as goal

@@ -1,5 +1,4 @@
 -- The answer of `run`, whose number and frame fit one number (Bounds), and its counts.
-use borrow.Author.Rules.{rules}
 use Rattle.rules_calls.proofs.laws.Compact.{run_compact}
 use Rattle.xaluudhiga.proofs.xal_run.Goals as goal
 

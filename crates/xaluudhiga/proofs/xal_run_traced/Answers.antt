@@ -1,6 +1,5 @@
 -- The answer of `run_traced`, whose number and frame fit one number (Compact), and its counts.
 use Rattle.xaluudhiga.proofs.Tracing.{traced_compact}
-use borrow.Author.Rules.{rules}
 use Rattle.xaluudhiga.proofs.xal_run_traced.Goals as goal
 
 pub pack-requires : goal.pack-requires

@@ -2,7 +2,6 @@
 use Rattle.rules_calls.proofs.laws.Compact.{load_compact}
 use Rattle.rules_calls.proofs.laws.Public.{load_call}
 use mathlib.Core.Path.{refl}
-use borrow.Author.Rules.{rules}
 use Rattle.xaluudhiga.proofs.xal_show.Goals as goal
 
 pub pack-requires : goal.pack-requires

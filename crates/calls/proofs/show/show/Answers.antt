@@ -3,7 +3,6 @@ use Rattle.calls_show.proofs.laws.Charted.{ready_charted}
 use Rattle.store_words.proofs.laws.Small.{small}
 use Rattle.rules_calls.proofs.laws.Checked.{ready}
 use Rattle.calls.proofs.Showing.{show_faulty, show_short, show_done}
-use borrow.Author.Rules.{rules}
 use Rattle.calls.proofs.show.show.Goals as goal
 
 pub returns-in_default : goal.returns-in_default

@@ -4,7 +4,6 @@ use Rattle.rules_calls.proofs.laws.Checked.{ready}
 use Rattle.laws_calls.proofs.laws.Refusals.{store_formed}
 use Rattle.calls.proofs.Turns.{store_now}
 use Rattle.calls.proofs.Tracing.{traced_faulty, traced_unready, traced_done, ready_traceable, ready_owners}
-use borrow.Author.Rules.{rules}
 use Rattle.calls.proofs.traced.run_traced.Goals as goal
 
 pub returns-in_default : goal.returns-in_default

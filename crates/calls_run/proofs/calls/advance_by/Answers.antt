@@ -1,7 +1,6 @@
 -- `advance_by` meets its contract: now, then what is due.
 use Rattle.rules_calls.specs.Calls.{advanced}
 use Rattle.calls_run.proofs.Turns.{timed_kept}
-use borrow.Author.Rules.{rules}
 use Rattle.calls_run.proofs.calls.advance_by.Goals as goal
 
 pub expire_all-requires : goal.expire_all-requires

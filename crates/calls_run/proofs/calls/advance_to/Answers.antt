@@ -1,10 +1,7 @@
 -- `advance_to` meets its contract: now alone where nothing is due by then, else all of it.
 use Rattle.rules_walks.specs.Choose.{choose}
 use Rattle.rules_walks.proofs.laws.Pick.{clash}
-use borrow.Author.Rules.{rules}
 use Rattle.calls_run.proofs.Turns.{nothing_due}
-use mathlib.Core.Path.{ap}
-use mathlib.Core.Bool.{not}
 use Rattle.calls_run.proofs.calls.advance_to.Goals as goal
 
 pub returns-then-nothing_due : goal.returns-then-nothing_due

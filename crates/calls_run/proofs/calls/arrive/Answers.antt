@@ -2,7 +2,6 @@
 use mathlib.Core.Path.{sym}
 use Rattle.rules_walks.proofs.laws.Pick.{clash}
 use Rattle.rules_walks.specs.Choose.{choose}
-use borrow.Author.Rules.{rules}
 use Rattle.calls_run.proofs.calls.arrive.Goals as goal
 
 pub come-requires : goal.come-requires

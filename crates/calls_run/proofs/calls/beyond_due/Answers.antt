@@ -1,5 +1,4 @@
 -- `beyond_due` meets its contract: what is next due answers for all.
-use borrow.Author.Rules.{rules}
 use borrow.Author.Tests.{eq-eqb, ne_eqb}
 use Rattle.rules_calls.proofs.laws.Due.{beyond_stored}
 use Rattle.calls_run.proofs.calls.beyond_due.Goals as goal

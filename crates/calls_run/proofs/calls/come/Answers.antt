@@ -1,7 +1,6 @@
 -- `come` meets its contract: an arrival, or else an advance.
 use mathlib.Core.Path.{sym, ◌∙◌}
 use Rattle.rules_walks.proofs.laws.Choose.{choose_true, choose_false}
-use borrow.Author.Rules.{rules}
 use Rattle.calls_run.proofs.calls.come.Goals as goal
 
 pub arrive_by-requires : goal.arrive_by-requires

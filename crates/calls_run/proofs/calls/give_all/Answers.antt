@@ -1,41 +1,15 @@
--- src/calls.rt:129:9
--- src/calls.rt:131:9
--- src/calls.rt:132:5
--- src/calls.rt:133:26
--- src/calls.rt:133:13
--- src/calls.rt:134:36
--- src/calls.rt:134:36
--- src/calls.rt:134:9
--- src/calls.rt:135:9
--- src/calls.rt:136:9
--- src/calls.rt:132:5
--- src/calls.rt:132:5
--- src/calls.rt:125:1
--- src/calls.rt:125:1
 use Rattle.table_index.proofs.laws.Leads.{leads_start, leads_more, leads_count}
 use Rattle.moves_take.proofs.laws.Known.{at_frame}
 use Rattle.rules_tables.specs.Kind.{of_output}
 use Rattle.rules_walks.proofs.laws.Count.{count_none, count_hit, count_past}
-use Rattle.rules_walks.specs.Count.{count_if}
 use Rattle.rules_walks.proofs.laws.Walk.{up_to_end}
-use Rattle.rules_walks.specs.Walk.{up_to}
 use Rattle.rules_tables.specs.Ids.{associations}
 use Rattle.rules_moves.specs.Carry.{voice, speaks}
-use Rattle.rules_calls.specs.Calls.{give, value_count}
+use Rattle.rules_calls.specs.Calls.{value_count}
 use Rattle.calls_run.proofs.Turns.{give_one, give_idle, voices, next_voice}
-use Prim.Native.Nat.{ℕ, ◌≤◌, ◌<◌, ◌-◌, ◌+◌}
-use lib.ListN.{length}
-use mathlib.Core.Bool.{true}
-use mathlib.Core.Path.{◌≡◌, refl, sym, ap, ◌∙◌}
-use borrow.Author.Rules.{rules}
+use Prim.Native.Nat.{ℕ, ◌<◌, ◌+◌}
+use mathlib.Core.Path.{refl, sym, ap, ◌∙◌}
 use native.Mathlib.Omega.{arith}
-use Rattle.calls_run.proofs.calls.give_all.Reads as reads
-use Rattle.store_words.proofs.shape.association_frame.Reads as association_frame_reads
-use Rattle.store_words.proofs.shape.associations.Reads as associations_reads
-use Rattle.store_words.proofs.word.put_value.Reads as put_value_reads
-use Rattle.table_frames.proofs.frame.field.Reads as field_reads
-use Rattle.table_index.proofs.read.first_association.Reads as first_association_reads
-use Rattle.table_index.proofs.read.next_association.Reads as next_association_reads
 use Rattle.calls_run.proofs.calls.give_all.Goals as goal
 
 pub first_association-j-requires : goal.first_association-j-requires

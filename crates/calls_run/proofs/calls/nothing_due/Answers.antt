@@ -1,5 +1,4 @@
 -- `nothing_due` meets its contract by its two tests.
-use borrow.Author.Rules.{rules}
 use borrow.Author.Tests.{eq-eqb, ne_eqb}
 use Rattle.calls_run.proofs.calls.nothing_due.Goals as goal
 

@@ -1,5 +1,4 @@
 -- `of_source` meets its contract: one of the table's, then its owner's sort.
-use borrow.Author.Rules.{rules}
 use Prim.Native.Nat.{◌<◌}
 use native.Mathlib.Omega.{arith}
 use borrow.Author.Tests.{lt-ltb, le-ltb}

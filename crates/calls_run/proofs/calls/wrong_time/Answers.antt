@@ -1,5 +1,4 @@
 -- `wrong_time` meets its contract: before now, or too late.
-use borrow.Author.Rules.{rules}
 use Rattle.rules_calls.specs.Calls.{wrong_time}
 use borrow.Author.Tests.{lt-ltb, le-ltb}
 use Rattle.calls_run.proofs.calls.wrong_time.Goals as goal

@@ -1,8 +1,6 @@
 -- `asked` meets its contract: no move, no room, no room for the trace where there is one, no budget, in this order.
-use borrow.Author.Tests.{not-true, not-false}
 use Rattle.moves_tell.proofs.laws.Telling.{is_good, is_ready}
 use Rattle.calls_run.proofs.Tracing.{no_move, no_room, plain_spent, no_space, traced_spent}
-use borrow.Author.Rules.{rules}
 use Rattle.calls_run.proofs.running.asked.Goals as goal
 
 pub returns-then-still : goal.returns-then-still

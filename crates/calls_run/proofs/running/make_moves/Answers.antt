@@ -1,14 +1,11 @@
 -- `make_moves` meets its contract. The invariant: the run is on its way (`Going`), and so is its trace where it has one (`Tracked`). Rests on every store of a
 -- run being well formed (`telling`), and on what the four questions answered (`run_goes_on`, `space_if`).
 use native.Mathlib.Omega.{arith}
-use Prim.Native.Nat.{◌-◌}
-use mathlib.Core.Path.{◌≡◌, refl, sym, ◌∙◌}
-use mathlib.Core.Logic.{⊎_elim}
-use lib.ListN.{length}
+use mathlib.Core.Path.{refl, sym, ◌∙◌}
 use Rattle.moves_tell.proofs.laws.Sizing.{first_room}
 use Rattle.calls_run.proofs.laws.Plenty.{telling}
-use Rattle.calls_run.proofs.Going.{Going, going_start, going_more, comes_next, room_left, budget_left, untrue_left}
-use Rattle.calls_run.proofs.Tracing.{Tracked, tracked_start, tracked_more, run_done, run_goes_on, space_if, told_here, not_told_here, numbers_room, told_both}
+use Rattle.calls_run.proofs.Going.{going_start, going_more, comes_next, room_left, budget_left, untrue_left}
+use Rattle.calls_run.proofs.Tracing.{tracked_start, tracked_more, run_done, run_goes_on, space_if, told_here, not_told_here, numbers_room, told_both}
 use borrow.Author.Rules.{rules}
 use Rattle.calls_run.specs.RunMade.{ToldIf}
 use Rattle.rules_traces.specs.Trace.{first_entries}

@@ -1,5 +1,4 @@
 -- `make_told` meets its contract: made, and its numbers told from the store that the move left.
-use mathlib.Core.Path.{sym}
 use Rattle.moves_tell.proofs.laws.Most.{numbered}
 use Rattle.calls_run.proofs.Tracing.{numbers_of, room_of}
 use borrow.Author.Rules.{rules}

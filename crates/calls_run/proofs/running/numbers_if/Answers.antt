@@ -1,7 +1,5 @@
 -- `numbers_if` meets its contract: told or not.
-use borrow.Author.Tests.{not-true, not-false}
 use Rattle.calls_run.proofs.Tracing.{not_told, all_told_if}
-use borrow.Author.Rules.{rules}
 use Rattle.calls_run.proofs.running.numbers_if.Goals as goal
 
 pub returns-then-not-tracing : goal.returns-then-not-tracing

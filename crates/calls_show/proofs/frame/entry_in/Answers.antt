@@ -1,7 +1,6 @@
 -- `entry_in` meets its contract: part by part.
 use Rattle.calls_show.proofs.Turns.{value_at}
 use Rattle.rules_traces.specs.Reader.{entry_in}
-use borrow.Author.Rules.{rules}
 use Rattle.calls_show.proofs.frame.entry_in.Goals as goal
 
 pub returns : goal.returns

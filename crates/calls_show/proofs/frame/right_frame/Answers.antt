@@ -1,7 +1,6 @@
 -- `right_frame` meets its contract by its two tests.
 use Rattle.rules_traces.specs.Reader.{right_frame}
 use borrow.Author.Tests.{eq-eqb, ne_eqb}
-use borrow.Author.Rules.{rules}
 use Rattle.calls_show.proofs.frame.right_frame.Goals as goal
 
 pub returns-then-kind-eq-TRACE : goal.returns-then-kind-eq-TRACE

@@ -1,6 +1,5 @@
 -- `known_entry` meets its contract: the block is one, and the kind right.
 use Rattle.calls_show.proofs.Turns.{of_block, of_none}
-use borrow.Author.Rules.{rules}
 use Rattle.calls_show.proofs.known.known_entry.Goals as goal
 
 pub returns-then-e-elements : goal.returns-then-e-elements

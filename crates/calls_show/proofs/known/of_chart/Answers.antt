@@ -1,7 +1,6 @@
 -- `of_chart` meets its contract: there is one, and its block is the entry's.
 use Rattle.rules_traces.specs.Reader.{of_chart}
 use borrow.Author.Tests.{lt-ltb, le-ltb}
-use borrow.Author.Rules.{rules}
 use Rattle.calls_show.proofs.known.of_chart.Goals as goal
 
 pub returns-then-q-states : goal.returns-then-q-states

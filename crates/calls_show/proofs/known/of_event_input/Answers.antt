@@ -1,7 +1,6 @@
 -- `of_event_input` meets its contract: there is one, and its block is the entry's.
 use Rattle.rules_traces.specs.Reader.{of_event_input}
 use borrow.Author.Tests.{lt-ltb, le-ltb}
-use borrow.Author.Rules.{rules}
 use Rattle.calls_show.proofs.known.of_event_input.Goals as goal
 
 pub returns-then-e-inputs : goal.returns-then-e-inputs

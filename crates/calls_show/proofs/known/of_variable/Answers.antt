@@ -1,7 +1,6 @@
 -- `of_variable` meets its contract: there is one, and its block and role are these.
 use Rattle.rules_traces.specs.Reader.{of_variable}
 use borrow.Author.Tests.{eq-eqb, ne_eqb, lt-ltb, le-ltb}
-use borrow.Author.Rules.{rules}
 use Rattle.calls_show.proofs.known.of_variable.Goals as goal
 
 pub returns-then-variables-e : goal.returns-then-variables-e

@@ -1,7 +1,6 @@
 -- `right_kind` meets its contract, kind by kind.
 use Rattle.rules_traces.specs.Reader.{nameless, happened, of_chart, of_variable, of_event_input, of_event_output, of_transition, right_kind}
 use borrow.Author.Tests.{ne_eqb}
-use borrow.Author.Rules.{rules}
 use Rattle.calls_show.proofs.known.right_kind.Goals as goal
 
 pub returns-then-nameless : goal.returns-then-nameless

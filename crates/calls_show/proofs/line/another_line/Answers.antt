@@ -1,7 +1,6 @@
 -- `another_line` meets its contract by its test.
 use mathlib.Core.Path.{refl}
 use Rattle.rules_traces.specs.Reader.{another_line}
-use borrow.Author.Rules.{rules}
 use Rattle.calls_show.proofs.line.another_line.Goals as goal
 
 pub returns : goal.returns

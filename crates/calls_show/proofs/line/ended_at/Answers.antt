@@ -2,7 +2,6 @@
 use Rattle.calls_show.proofs.Lines.{no_end}
 use Rattle.rules_traces.specs.Reader.{ended_at}
 use borrow.Author.Tests.{eq-eqb, ne_eqb}
-use borrow.Author.Rules.{rules}
 use Rattle.calls_show.proofs.line.ended_at.Goals as goal
 
 pub returns-then-text-at : goal.returns-then-text-at

@@ -1,7 +1,6 @@
 -- `whole_line` meets its contract: long enough, all digits, ended.
 use native.Mathlib.Omega.{arith}
 use Rattle.calls_show.proofs.Lines.{line_short, line_other, line_ended}
-use borrow.Author.Rules.{rules}
 use mathlib.Core.Path.{ap}
 use mathlib.Core.Bool.{not}
 use Rattle.calls_show.proofs.line.whole_line.Goals as goal

@@ -1,7 +1,6 @@
 -- `ended_by` meets its contract: a line that was asked for and is there ended the reading.
 use Rattle.rules_traces.specs.Reader.{ended_by}
 use borrow.Author.Tests.{lt-ltb, le-ltb}
-use borrow.Author.Rules.{rules}
 use Rattle.calls_show.proofs.show.ended_by.Goals as goal
 
 pub returns-then-frames-n : goal.returns-then-frames-n

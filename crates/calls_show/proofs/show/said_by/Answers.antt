@@ -1,9 +1,7 @@
 -- `said_by` meets its contract: the tests in the order of the definition.
-use borrow.Author.Tests.{not-false}
 use mathlib.Core.Path.{sym, ◌∙◌}
 use Rattle.calls_show.proofs.Turns.{said_none, said_broken, said_wrong, said_unknown, said_known}
 use Rattle.calls_show.proofs.Lines.{there}
-use borrow.Author.Rules.{rules}
 use mathlib.Core.Path.{ap}
 use mathlib.Core.Bool.{not}
 use Rattle.calls_show.proofs.show.said_by.Goals as goal

@@ -1,6 +1,5 @@
 -- `show_entry` meets its contract, by the kind of the entry.
 use Rattle.calls_show.proofs.Turns.{show_chart, show_value, show_none}
-use borrow.Author.Rules.{rules}
 use Rattle.calls_show.proofs.show.show_entry.Goals as goal
 
 pub returns-then-e-eq-CHART_KIND : goal.returns-then-e-eq-CHART_KIND

@@ -1,15 +1,9 @@
 -- `show_frames` meets its contract. The invariant: the lines passed could be read, and the store is what they say of it.
 use Rattle.calls_show.proofs.laws.Shown.{shown_none}
 use Rattle.calls_show.proofs.Turns.{says_nothing, says_readable, says_narrow, says_on, shown_more, all_shown, some_shown}
-use Rattle.rules_traces.specs.Reader.{readable, shown_after}
 use Rattle.store_words.proofs.laws.Small.{small}
 use Rattle.rules_walks.proofs.laws.All.{all_none, all_more}
-use Rattle.rules_walks.specs.All.{all_to}
-use lib.ListN.{length}
-use mathlib.Core.Logic.{⊎_elim}
-use mathlib.Core.Bool.{true}
-use mathlib.Core.Path.{◌≡◌, refl}
-use Prim.Native.Nat.{◌+◌, ◌*◌, ◌-◌, ◌≤◌}
+use mathlib.Core.Path.{refl}
 use borrow.Author.Rules.{rules}
 use Rattle.calls_show.proofs.show.show_frames.Goals as goal
 use Rattle.calls_show.proofs.show.show_frames.Goals.{else-loop-n-test, then-loop-n-test+in_default}

@@ -1,15 +1,9 @@
-use Rattle.calls_show.proofs.laws.Shown.{shown_none}
-use Rattle.calls_show.proofs.Turns.{says_nothing, says_readable, says_narrow, says_on, shown_more, all_shown, some_shown}
 use Rattle.rules_traces.specs.Reader.{readable, shown_after}
-use Rattle.store_words.proofs.laws.Small.{small}
-use Rattle.rules_walks.proofs.laws.All.{all_none, all_more}
 use Rattle.rules_walks.specs.All.{all_to}
 use lib.ListN.{length}
-use mathlib.Core.Logic.{⊎_elim}
 use mathlib.Core.Bool.{true}
-use mathlib.Core.Path.{◌≡◌, refl}
+use mathlib.Core.Path.{◌≡◌}
 use Prim.Native.Nat.{◌+◌, ◌*◌, ◌-◌, ◌≤◌}
-use borrow.Author.Rules.{rules}
 use Rattle.calls_show.proofs.show.show_frames.Given as goal
 
 abbrev pub invariant-loop-n : goal.invariant-loop-n

@@ -1,5 +1,4 @@
 -- The tables lie within the bytes of all frames.
-use borrow.Author.Rules.{rules}
 use mathlib.Core.Path.{sym}
 use native.Mathlib.Omega.{arith}
 use lib.Seq.{length-take-le}

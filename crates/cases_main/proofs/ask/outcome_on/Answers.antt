@@ -1,7 +1,5 @@
 -- What is lent of store and output are their first words and bytes, as many as the row says, which fits.
-use borrow.Author.Rules.{rules}
 use mathlib.Core.Path.{sym}
-use native.Mathlib.Omega.{arith}
 use lib.Seq.{length-take-le}
 use Rattle.cases_main.proofs.ask.outcome_on.Goals as goal
 

@@ -1,5 +1,4 @@
 -- Computed: the constants are the frames of the definitions, field by field.
-use borrow.Author.Rules.{rules}
 use mathlib.Core.Path.{refl}
 use Rattle.rules_numbers.specs.Bytes.{half_at}
 use Rattle.cases_tables.specs.Worked.{worked}

@@ -1,5 +1,4 @@
 -- Computed: the constants are the rows of the definitions' cases.
-use borrow.Author.Rules.{rules}
 use mathlib.Core.Path.{refl}
 use Rattle.cases_main.proofs.data.row_at.Goals as goal
 

@@ -1,14 +1,9 @@
 -- `all_digits` meets its contract. The invariant: the characters passed are digits.
-use Rattle.rules_walks.specs.All.{all_to}
 use Rattle.rules_walks.proofs.laws.All.{all_none, all_more, all_stop}
 use Rattle.rules_sessions.specs.Line.{is_digit, all_digits}
 use mathlib.Core.Path.{◌≡◌, sym, ap, ◌∙◌}
-use mathlib.Core.Bool.{true}
-use lib.ListN.{length, get_or}
-use borrow.Author.Tests.{not-true, not-false}
+use lib.ListN.{length}
 use native.Mathlib.Omega.{arith}
-use Prim.Native.Nat.{ℕ, ◌≤◌, ◌-◌}
-use borrow.Author.Rules.{rules}
 use Rattle.lines.proofs.line.all_digits.Goals as goal
 
 pub loop-i-init : goal.loop-i-init

@@ -3,7 +3,6 @@ use Rattle.lines.proofs.Reading.{byte_value}
 use Rattle.rules_sessions.proofs.laws.Digits.{all_digits_at}
 use Rattle.rules_sessions.specs.Line.{is_digit}
 use mathlib.Core.Path.{ap, ◌∙◌}
-use borrow.Author.Rules.{rules}
 use Rattle.lines.proofs.line.byte_of.Goals as goal
 
 pub digit_value-high-requires : goal.digit_value-high-requires

@@ -2,7 +2,6 @@
 use Rattle.lines.proofs.Reading.{any_default}
 use lib.ListN.{get_or-eq_default}
 use mathlib.Core.Path.{sym}
-use borrow.Author.Rules.{rules}
 use Rattle.lines.proofs.line.character.Goals as goal
 
 pub returns-then-i-line : goal.returns-then-i-line

@@ -1,7 +1,6 @@
 -- `digit_value` meets its contract: a digit is in one of the two ranges.
 use Rattle.lines.proofs.Reading.{low_from, low_value, high_value}
 use native.Mathlib.Omega.{arith}
-use borrow.Author.Rules.{rules}
 use Rattle.lines.proofs.line.digit_value.Goals as goal
 
 pub overflow_sub-result : goal.overflow_sub-result

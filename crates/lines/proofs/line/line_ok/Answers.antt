@@ -1,6 +1,5 @@
 -- `line_ok` meets its contract: the tests in the definition's order.
 use borrow.Author.Tests.{le-leb, lt-leb, eq-eqb, ne_eqb}
-use borrow.Author.Rules.{rules}
 use Rattle.rules_sessions.specs.Line.{line_ok as «line_ok_of»}
 use Rattle.lines.proofs.line.line_ok.Goals as goal
 

@@ -1,6 +1,5 @@
 -- `opens` meets its contract: the tests in the definition's order.
 use borrow.Author.Tests.{le-leb, lt-leb, eq-eqb, ne_eqb}
-use borrow.Author.Rules.{rules}
 use Rattle.rules_sessions.specs.Line.{opens as «opens_of»}
 use Rattle.lines.proofs.line.opens.Goals as goal
 

@@ -1,12 +1,8 @@
 -- `put_frame` meets its contract. The invariant: the bytes passed are written.
 use Rattle.lines.proofs.Reading.{frame_none, frame_more}
-use Rattle.rules_sessions.specs.Line.{bytes_to}
-use lib.ListN.{length, length-set}
-use lib.Seq.{sets}
+use lib.ListN.{length-set}
 use mathlib.Core.Path.{◌≡◌, refl}
 use native.Mathlib.Omega.{arith}
-use Prim.Native.Nat.{◌≤◌, ◌-◌}
-use borrow.Author.Rules.{rules}
 use Rattle.lines.proofs.line.put_frame.Goals as goal
 
 pub loop-k-init : goal.loop-k-init

@@ -1,11 +1,8 @@
-use Rattle.lines.proofs.Reading.{frame_none, frame_more}
 use Rattle.rules_sessions.specs.Line.{bytes_to}
-use lib.ListN.{length, length-set}
+use lib.ListN.{length}
 use lib.Seq.{sets}
-use mathlib.Core.Path.{◌≡◌, refl}
-use native.Mathlib.Omega.{arith}
+use mathlib.Core.Path.{◌≡◌}
 use Prim.Native.Nat.{◌≤◌, ◌-◌}
-use borrow.Author.Rules.{rules}
 use Rattle.lines.proofs.line.put_frame.Given as goal
 
 abbrev pub invariant-loop-k : goal.invariant-loop-k

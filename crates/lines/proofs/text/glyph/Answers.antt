@@ -1,6 +1,5 @@
 -- `glyph` meets its contract by its test.
 use borrow.Author.Tests.{lt-ltb, le-ltb}
-use borrow.Author.Rules.{rules}
 use Rattle.rules_sessions.specs.Text.{glyph as «glyph_of»}
 use Rattle.lines.proofs.text.glyph.Goals as goal
 

@@ -1,12 +1,8 @@
 -- `put_digits` meets its contract. The invariant: the digits of the bytes passed are written.
 use Rattle.lines.proofs.Printing.{digits_none, pair_more, digits_all}
-use Rattle.rules_sessions.specs.Text.{digits}
-use lib.ListN.{length, take}
-use lib.Seq.{sets}
+use lib.ListN.{length}
 use mathlib.Core.Path.{◌≡◌, refl}
 use native.Mathlib.Omega.{arith}
-use Prim.Native.Nat.{◌≤◌, ◌-◌}
-use borrow.Author.Rules.{rules}
 use Rattle.lines.proofs.text.put_digits.Goals as goal
 
 pub loop-i-init : goal.loop-i-init

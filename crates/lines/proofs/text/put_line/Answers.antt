@@ -1,7 +1,6 @@
 -- `put_line` meets its contract: the digits, then the end of the line.
 use Rattle.lines.proofs.Printing.{line_ended}
 use mathlib.Core.Path.{refl}
-use borrow.Author.Rules.{rules}
 use Rattle.lines.proofs.text.put_line.Goals as goal
 
 pub returns : goal.returns

@@ -3,7 +3,6 @@ use native.Mathlib.Numerals.{add-one}
 use Rattle.rules_sessions.specs.Text.{pair}
 use lib.ListN.{length-set}
 use native.Mathlib.Omega.{arith}
-use borrow.Author.Rules.{rules}
 use Rattle.lines.proofs.text.put_pair.Goals as goal
 
 pub bounds-text-at-2 : goal.bounds-text-at-2

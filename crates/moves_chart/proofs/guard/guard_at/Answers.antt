@@ -1,6 +1,5 @@
 -- `guard::guard_at` meets its contract: each case is the guard of its number, with the fields d and e as its variables.
 use mathlib.Core.Path.{refl, ◌∙◌}
-use borrow.Author.Rules.{rules}
 use Rattle.rules_moves.specs.Guard.{guard_of}
 use Rattle.moves_chart.proofs.Guards.{reads, reads_as, last}
 use Rattle.moves_chart.proofs.guard.guard_at.Goals as goal

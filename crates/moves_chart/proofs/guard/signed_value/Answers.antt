@@ -1,7 +1,6 @@
 -- `guard::signed_value` meets its contract: the word of the variable, read with its sign.
 use mir.Syntax.{w32}
 use mathlib.Core.Path.{ap, ◌∙◌}
-use borrow.Author.Rules.{rules}
 use mir.Facts.{to_z-of_z}
 use Rattle.rules_numbers.specs.Word.{signed}
 use Rattle.moves_chart.proofs.guard.signed_value.Goals as goal

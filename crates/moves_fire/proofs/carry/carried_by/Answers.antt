@@ -1,21 +1,8 @@
--- src/carry.rt:52:22
--- src/carry.rt:52:9
--- src/carry.rt:54:9
--- src/carry.rt:56:25
--- src/carry.rt:56:20
--- src/carry.rt:57:9
--- src/carry.rt:57:9
--- src/carry.rt:48:1
 use Rattle.rules_moves.specs.Partner.{partner_variable}
 use Rattle.rules_moves.specs.Carry.{carried_by}
 use Rattle.table_parts.proofs.laws.Found.{found_one, found_missing}
 use borrow.Author.Tests.{eq-eqb, ne_eqb}
 use native.Mathlib.Omega.{arith}
-use borrow.Author.Rules.{rules}
-use Rattle.moves_fire.proofs.carry.carried_by.Reads as reads
-use Rattle.moves_fire.proofs.partner.partner_variable.Reads as partner_variable_reads
-use Rattle.store_words.proofs.shape.association_frame.Reads as association_frame_reads
-use Rattle.table_frames.proofs.frame.field.Reads as field_reads
 use Rattle.moves_fire.proofs.carry.carried_by.Goals as goal
 
 pub returns-then-w-eq-OF_OUTPUT : goal.returns-then-w-eq-OF_OUTPUT

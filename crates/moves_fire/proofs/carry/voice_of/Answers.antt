@@ -1,5 +1,4 @@
 -- `voice_of` meets its contract by cases: no interface, a partner, none.
-use borrow.Author.Rules.{rules}
 use Rattle.table_parts.proofs.laws.Found.{found_one, found_missing}
 use Rattle.rules_moves.specs.Carry.{voice_of}
 use borrow.Author.Tests.{eq-eqb, ne_eqb}

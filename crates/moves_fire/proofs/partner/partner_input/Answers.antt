@@ -1,5 +1,4 @@
 -- `partner_input` meets its contract: the rank among the outputs is looked for among the inputs.
-use borrow.Author.Rules.{rules}
 use Rattle.rules_moves.specs.Partner.{partner_input}
 use Rattle.moves_fire.proofs.partner.partner_input.Goals as goal
 

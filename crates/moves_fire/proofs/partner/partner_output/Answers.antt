@@ -1,13 +1,5 @@
--- src/partner.rt:28:9
--- src/partner.rt:29:12
--- src/partner.rt:24:1
--- src/partner.rt:24:1
 use Rattle.rules_moves.specs.Partner.{partner_output}
 use Rattle.moves_fire.proofs.Turns.{partner_one, partner_missing}
-use borrow.Author.Rules.{rules}
-use Rattle.moves_fire.proofs.partner.partner_output.Reads as reads
-use Rattle.store_words.proofs.shape.outputs.Reads as outputs_reads
-use Rattle.table_index.proofs.read.output_partner.Reads as output_partner_reads
 use Rattle.moves_fire.proofs.partner.partner_output.Goals as goal
 
 pub returns-then-o-outputs : goal.returns-then-o-outputs

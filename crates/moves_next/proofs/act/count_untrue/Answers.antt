@@ -3,7 +3,6 @@ use mathlib.Core.Path.{sym}
 use Rattle.rules_store.specs.Word.{counted}
 use Rattle.rules_moves.specs.Act.{count_untrue}
 use Rattle.store_words.proofs.laws.Running.{untrue_stays}
-use borrow.Author.Rules.{rules}
 use Rattle.moves_next.proofs.act.count_untrue.Goals as goal
 
 pub returns-then-u-eq0 : goal.returns-then-u-eq0

@@ -1,5 +1,4 @@
 -- `end` meets its contract: the event is fired, which leaves the running block (`fired_runs`), then the next action comes (`ended`).
-use borrow.Author.Rules.{rules}
 use Rattle.moves_next.proofs.Turns.{fired_runs, ended}
 use Rattle.moves_next.proofs.act.end.Goals as goal
 

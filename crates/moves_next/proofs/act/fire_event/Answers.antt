@@ -1,5 +1,4 @@
 -- `fire_event` meets its contract: none or not.
-use borrow.Author.Rules.{rules}
 use Rattle.moves_next.proofs.Turns.{event_fired, event_none, event_own}
 use mathlib.Core.List.{[]}
 use mathlib.Core.Path.{refl}

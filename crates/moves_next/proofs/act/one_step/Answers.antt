@@ -8,7 +8,6 @@ use Rattle.rules_numbers.specs.declared.Outcome.{Outcome}
 use Rattle.rules_numbers.specs.Word.{word}
 use Rattle.rules_moves.specs.Act.{untrue_step}
 use Rattle.moves_next.proofs.Turns.{step_is}
-use borrow.Author.Rules.{rules}
 use Rattle.moves_next.proofs.act.one_step.Goals as goal
 
 pub returns : goal.returns

@@ -1,6 +1,5 @@
 -- `step` meets its contract: the step, and the running block after it, which the step leaves (`step_runs`).
 use Rattle.moves_next.proofs.Turns.{stepped_on, stepped_untrue, step_runs}
-use borrow.Author.Rules.{rules}
 use Rattle.moves_next.proofs.act.step.Goals as goal
 
 pub put_stepped-requires : goal.put_stepped-requires

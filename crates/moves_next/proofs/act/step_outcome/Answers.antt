@@ -1,6 +1,5 @@
 -- `step_outcome` meets its contract: what was read, and what the operation made of it.
 use Rattle.moves_next.proofs.Turns.{step_told}
-use borrow.Author.Rules.{rules}
 use Rattle.moves_next.proofs.act.step_outcome.Goals as goal
 
 pub returns : goal.returns

@@ -1,46 +1,16 @@
--- src/record.rt:104:9
--- src/record.rt:106:9
--- src/record.rt:107:5
--- src/record.rt:108:47
--- src/record.rt:108:38
--- src/record.rt:108:13
--- src/record.rt:109:9
--- src/record.rt:110:9
--- src/record.rt:111:9
--- src/record.rt:107:5
--- src/record.rt:107:5
--- src/record.rt:90:1
--- src/record.rt:90:1
--- src/record.rt:90:1
 use Rattle.moves_take.proofs.Turns.{sample_take, sample_idle, voiced}
 use Rattle.table_index.proofs.laws.Leads.{leads_start, leads_more}
 use Rattle.moves_take.proofs.laws.Together.{sampled_value}
 use Rattle.moves_take.proofs.Written.{place_first, written_first, value_written, value_place, value_fits, values_end}
-use Rattle.rules_moves.specs.Record.{value_of, values}
-use Rattle.rules_moves.specs.Take.{sample, samples}
-use lib.Seq.{sets}
+use Rattle.rules_moves.specs.Record.{values}
 use mathlib.Core.List.{[]}
 use Rattle.moves_take.proofs.laws.Known.{at_frame}
 use Rattle.store_words.proofs.laws.Small.{small}
-use Rattle.rules_tables.specs.Ids.{first_association, associations}
+use Rattle.rules_tables.specs.Ids.{associations}
 use Rattle.rules_walks.proofs.laws.Walk.{up_to_end}
-use Rattle.rules_tables.specs.Owned.{belongs}
-use Rattle.rules_tables.specs.Kind.{of_input}
-use Rattle.rules_walks.specs.Walk.{up_to}
-use Prim.Native.Nat.{◌≤◌, ◌<◌, ◌-◌, ◌+◌}
-use mathlib.Core.Bool.{true}
-use lib.ListN.{length}
+use Prim.Native.Nat.{◌<◌}
 use mathlib.Core.Path.{◌≡◌, refl}
-use borrow.Author.Rules.{rules}
 use native.Mathlib.Omega.{arith}
-use Rattle.moves_take.proofs.record.sample_into.Reads as reads
-use Rattle.moves_take.proofs.sample.Reads as sample_reads
-use Rattle.numbers.proofs.bytes.put_word.Reads as put_word_reads
-use Rattle.store_words.proofs.shape.association_frame.Reads as association_frame_reads
-use Rattle.store_words.proofs.shape.associations.Reads as associations_reads
-use Rattle.table_frames.proofs.frame.field.Reads as field_reads
-use Rattle.table_index.proofs.read.first_association.Reads as first_association_reads
-use Rattle.table_index.proofs.read.next_association.Reads as next_association_reads
 use Rattle.moves_take.proofs.record.sample_into.Goals as goal
 
 pub first_association-j-requires : goal.first_association-j-requires

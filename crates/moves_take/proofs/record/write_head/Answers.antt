@@ -1,5 +1,4 @@
 -- `write_head` meets its contract: five writes, one after the other.
-use borrow.Author.Rules.{rules}
 use Rattle.moves_take.proofs.Written.{head_written}
 use Rattle.moves_take.proofs.record.write_head.Goals as goal
 

@@ -1,5 +1,4 @@
 -- `write_record` meets its contract: the head, then the values as they are sampled.
-use borrow.Author.Rules.{rules}
 use Rattle.moves_take.proofs.Written.{record_written}
 use Rattle.rules_moves.specs.Record.{record_size}
 use lib.Seq.{length-sets}

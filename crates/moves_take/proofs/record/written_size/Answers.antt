@@ -1,5 +1,4 @@
 -- `written_size` meets its contract: a sink or not (`sized_sink`, `sized_other`).
-use borrow.Author.Rules.{rules}
 use Rattle.moves_take.proofs.laws.Known.{at_frame, owner_in}
 use Rattle.moves_take.proofs.Turns.{sized_sink, sized_other}
 use Rattle.moves_take.proofs.record.written_size.Goals as goal

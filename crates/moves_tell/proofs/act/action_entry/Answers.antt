@@ -1,5 +1,4 @@
 -- `action_entry` meets its contract.
-use borrow.Author.Rules.{rules}
 use Rattle.moves_tell.proofs.act.action_entry.Goals as goal
 
 pub returns : goal.returns

@@ -1,6 +1,5 @@
 -- `result_of` meets its contract: what was read, and what the operation made of it.
 use Rattle.moves_tell.proofs.Telling.{result_of_lem}
-use borrow.Author.Rules.{rules}
 use Rattle.moves_tell.proofs.act.result_of.Goals as goal
 
 pub returns : goal.returns

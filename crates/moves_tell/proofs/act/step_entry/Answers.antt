@@ -1,5 +1,4 @@
 -- `step_entry` meets its contract.
-use borrow.Author.Rules.{rules}
 use Rattle.moves_tell.proofs.act.step_entry.Goals as goal
 
 pub returns : goal.returns

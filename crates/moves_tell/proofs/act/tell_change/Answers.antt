@@ -3,7 +3,6 @@ use native.Mathlib.Omega.{arith}
 use mathlib.Core.Path.{sym}
 use Rattle.moves_tell.proofs.laws.Told.{room_first, room_rest, room_same, told_then, told_same}
 use Rattle.moves_tell.proofs.Telling.{change_is}
-use borrow.Author.Rules.{rules}
 use Rattle.moves_tell.proofs.act.tell_change.Goals as goal
 
 pub put_differing-p-requires : goal.put_differing-p-requires

@@ -1,9 +1,7 @@
 -- `tell_end` meets its contract.
-use native.Mathlib.Omega.{arith}
 use mathlib.Core.Path.{sym}
 use Rattle.moves_tell.proofs.laws.Told.{told_none, told_same, room_same}
 use Rattle.moves_tell.proofs.Telling.{no_event, some_event, event_in}
-use borrow.Author.Rules.{rules}
 use Rattle.moves_tell.proofs.act.tell_end.Goals as goal
 
 pub returns-then-o-eq-NONE : goal.returns-then-o-eq-NONE

@@ -3,7 +3,6 @@ use native.Mathlib.Omega.{arith}
 use mathlib.Core.Path.{refl, sym}
 use Rattle.moves_tell.proofs.laws.Told.{room_first, room_rest, room_same, told_then, told_same}
 use Rattle.moves_tell.proofs.Telling.{ended_is}
-use borrow.Author.Rules.{rules}
 use Rattle.moves_tell.proofs.act.tell_ended.Goals as goal
 
 pub put_entry-p-requires : goal.put_entry-p-requires

@@ -1,7 +1,6 @@
 -- `tell_idle` meets its contract.
 use native.Mathlib.Omega.{arith}
 use Rattle.moves_tell.proofs.laws.Told.{told_same, room_same}
-use borrow.Author.Rules.{rules}
 use Rattle.moves_tell.proofs.act.tell_idle.Goals as goal
 
 pub put_entry-requires : goal.put_entry-requires

@@ -4,7 +4,6 @@ use mathlib.Core.Path.{sym}
 use Rattle.rules_moves.proofs.laws.Next.{ready_action}
 use Rattle.moves_tell.proofs.laws.Told.{told_none, told_same, room_same}
 use Rattle.moves_tell.proofs.Telling.{take_told, change_told, idle_told, step_told, end_told, back_told, nothing_told}
-use borrow.Author.Rules.{rules}
 use Rattle.moves_tell.proofs.act.tell_numbers.Goals as goal
 
 pub put_differing-requires : goal.put_differing-requires

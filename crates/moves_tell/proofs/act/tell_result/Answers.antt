@@ -3,7 +3,6 @@ use native.Mathlib.Omega.{arith}
 use mathlib.Core.Path.{sym}
 use Rattle.moves_tell.proofs.laws.Told.{told_same, room_same}
 use Rattle.moves_tell.proofs.Telling.{result_is}
-use borrow.Author.Rules.{rules}
 use Rattle.moves_tell.proofs.act.tell_result.Goals as goal
 
 pub put_differing-requires : goal.put_differing-requires

@@ -2,7 +2,6 @@
 use mathlib.Core.Path.{sym}
 use Rattle.moves_tell.proofs.laws.Told.{told_same, room_same}
 use Rattle.moves_tell.proofs.Telling.{step_is, step_in}
-use borrow.Author.Rules.{rules}
 use Rattle.moves_tell.proofs.act.tell_step.Goals as goal
 
 pub tell_result-requires : goal.tell_result-requires

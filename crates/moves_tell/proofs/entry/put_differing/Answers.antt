@@ -1,7 +1,6 @@
 -- `put_differing` meets its contract.
 use mathlib.Core.Path.{sym}
 use Rattle.moves_tell.proofs.laws.Told.{told_none, told_same, room_same, differing_same, differing_other}
-use borrow.Author.Rules.{rules}
 use Rattle.moves_tell.proofs.entry.put_differing.Goals as goal
 
 pub returns-then-before-e : goal.returns-then-before-e

@@ -1,7 +1,6 @@
 -- `put_entry` meets its contract.
 use mathlib.Core.Path.{refl}
 use Rattle.moves_tell.proofs.laws.Told.{room_one, told_one}
-use borrow.Author.Rules.{rules}
 use Rattle.moves_tell.proofs.entry.put_entry.Goals as goal
 
 pub write_frame-requires : goal.write_frame-requires

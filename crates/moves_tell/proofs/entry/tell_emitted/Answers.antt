@@ -3,7 +3,6 @@ use native.Mathlib.Omega.{arith}
 use mathlib.Core.Path.{sym}
 use Rattle.moves_tell.proofs.laws.Told.{told_same, room_same}
 use Rattle.moves_tell.proofs.Telling.{emitted_is}
-use borrow.Author.Rules.{rules}
 use Rattle.moves_tell.proofs.entry.tell_emitted.Goals as goal
 
 pub put_entry-requires : goal.put_entry-requires

@@ -1,6 +1,5 @@
 -- `write_frame` meets its contract: five writes, one after the other.
 use Rattle.moves_tell.proofs.laws.Told.{frame_written}
-use borrow.Author.Rules.{rules}
 use Rattle.moves_tell.proofs.entry.write_frame.Goals as goal
 
 pub returns : goal.returns

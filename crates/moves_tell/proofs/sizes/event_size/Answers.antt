@@ -2,7 +2,6 @@
 use mathlib.Core.Path.{sym}
 use Rattle.moves_tell.proofs.laws.Sized.{sized_none, sized_emitted, sized_same}
 use Rattle.moves_tell.proofs.Telling.{no_event, some_event}
-use borrow.Author.Rules.{rules}
 use Rattle.moves_tell.proofs.sizes.event_size.Goals as goal
 
 pub returns-then-field-eq-NONE : goal.returns-then-field-eq-NONE

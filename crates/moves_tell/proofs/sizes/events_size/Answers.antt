@@ -2,7 +2,6 @@
 use native.Mathlib.Omega.{arith}
 use Rattle.moves_tell.proofs.laws.Sized.{sized_events}
 use Rattle.moves_tell.proofs.laws.Taking.{element_in}
-use borrow.Author.Rules.{rules}
 use Rattle.moves_tell.proofs.sizes.events_size.Goals as goal
 
 pub finished_size-requires : goal.finished_size-requires

@@ -2,7 +2,6 @@
 use native.Mathlib.Omega.{arith}
 use Rattle.moves_tell.proofs.laws.Sized.{sized_none, sized_one, sized_same}
 use Rattle.moves_tell.proofs.laws.Taking.{not_at_once, at_once}
-use borrow.Author.Rules.{rules}
 use Rattle.moves_tell.proofs.sizes.finished_size.Goals as goal
 
 pub returns-then-flag-eq-BASIC : goal.returns-then-flag-eq-BASIC

@@ -3,7 +3,6 @@ use native.Mathlib.Omega.{arith}
 use Rattle.rules_moves.proofs.laws.Next.{ready_input, ready_transition, ready_step, ready_action}
 use Rattle.moves_tell.proofs.laws.Sized.{sized_none, sized_one, sized_same}
 use Rattle.moves_tell.proofs.laws.Telling.{is_good, is_ready, take_all, change_all, idle_all, step_all, end_all, back_all, nothing_all}
-use borrow.Author.Rules.{rules}
 use Rattle.moves_tell.proofs.sizes.first_size.Goals as goal
 
 pub take_size-requires : goal.take_size-requires

@@ -3,7 +3,6 @@ use native.Mathlib.Omega.{arith}
 use mathlib.Core.Path.{refl}
 use Rattle.moves_tell.proofs.laws.Sized.{sized_none, sized_one, sized_same}
 use Rattle.moves_tell.proofs.laws.Taking.{sampled_none, sampled_is}
-use borrow.Author.Rules.{rules}
 use Rattle.moves_tell.proofs.sizes.input_size.Goals as goal
 
 pub returns-then-differs : goal.returns-then-differs

@@ -1,17 +1,9 @@
 -- `inputs_size` meets its contract. The invariant: the bytes of the inputs passed; those of other variables are none.
 use native.Mathlib.Omega.{arith}
-use Prim.Native.Nat.{◌*◌, ◌≤◌, ◌<◌, ◌-◌}
-use mathlib.Core.Bool.{true}
-use mathlib.Core.Path.{◌≡◌, ap}
-use Rattle.rules_tables.specs.Kind.{input}
-use Rattle.rules_tables.specs.Ids.{first_variable, variables}
-use Rattle.rules_tables.specs.Owned.{belongs}
+use mathlib.Core.Path.{ap}
 use Rattle.rules_traces.specs.Gather.{gather}
-use Rattle.moves_tell.specs.Before.{sampled_entry}
-use Rattle.moves_tell.specs.Told.{Sized}
 use Rattle.moves_tell.proofs.laws.Sized.{sized_same, sized_first, sized_next}
 use Rattle.moves_tell.proofs.laws.Partners.{not_sampled}
-use borrow.Author.Rules.{rules}
 use Rattle.moves_tell.proofs.sizes.inputs_size.Goals as goal
 
 pub loop-v-init : goal.loop-v-init

@@ -1,16 +1,12 @@
-use native.Mathlib.Omega.{arith}
 use Prim.Native.Nat.{◌*◌, ◌≤◌, ◌<◌, ◌-◌}
 use mathlib.Core.Bool.{true}
-use mathlib.Core.Path.{◌≡◌, ap}
+use mathlib.Core.Path.{◌≡◌}
 use Rattle.rules_tables.specs.Kind.{input}
 use Rattle.rules_tables.specs.Ids.{first_variable, variables}
 use Rattle.rules_tables.specs.Owned.{belongs}
 use Rattle.rules_traces.specs.Gather.{gather}
 use Rattle.moves_tell.specs.Before.{sampled_entry}
 use Rattle.moves_tell.specs.Told.{Sized}
-use Rattle.moves_tell.proofs.laws.Sized.{sized_same, sized_first, sized_next}
-use Rattle.moves_tell.proofs.laws.Partners.{not_sampled}
-use borrow.Author.Rules.{rules}
 use Rattle.moves_tell.proofs.sizes.inputs_size.Given as goal
 
 abbrev pub invariant-loop-v : goal.invariant-loop-v

@@ -4,7 +4,6 @@ use mathlib.Core.Path.{refl, ◌∙◌}
 use mathlib.Core.List.{[]}
 use Rattle.moves_tell.proofs.laws.Sized.{sized_none, sized_one, sized_same}
 use Rattle.moves_tell.proofs.laws.Taking.{pass_none, pass_one, pass_in, passed_none, passed_is}
-use borrow.Author.Rules.{rules}
 use Rattle.moves_tell.proofs.sizes.output_size.Goals as goal
 
 pub returns-in_default : goal.returns-in_default

@@ -5,7 +5,6 @@ use mathlib.Core.List.{[]}
 use Rattle.moves_tell.proofs.laws.Sized.{sized_none, sized_emitted, sized_same}
 use Rattle.moves_tell.proofs.laws.Taking.{element_in, plain_event, interface_event}
 use Rattle.moves_tell.proofs.Telling.{partner_none, partner_one}
-use borrow.Author.Rules.{rules}
 use Rattle.moves_tell.proofs.sizes.partner_size.Goals as goal
 
 pub flag-requires : goal.flag-requires

@@ -2,7 +2,6 @@
 use mathlib.Core.Path.{refl, ◌∙◌}
 use Rattle.moves_tell.proofs.laws.Sized.{sized_same, sized_differing_not, sized_differing}
 use Rattle.moves_tell.proofs.Telling.{result_is, step_is}
-use borrow.Author.Rules.{rules}
 use Rattle.moves_tell.proofs.sizes.step_size.Goals as goal
 
 pub returns-then-value_of-x : goal.returns-then-value_of-x

@@ -1,7 +1,6 @@
 -- `take_size` meets its contract: what changes, then what happens.
 use Rattle.moves_tell.proofs.laws.Sized.{sized_then}
 use Rattle.moves_tell.proofs.laws.Taking.{el_is}
-use borrow.Author.Rules.{rules}
 use Rattle.moves_tell.proofs.sizes.take_size.Goals as goal
 
 pub values_size-requires : goal.values_size-requires

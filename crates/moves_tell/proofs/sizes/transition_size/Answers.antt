@@ -1,7 +1,6 @@
 -- `transition_size` meets its contract: the chart state, then the transition.
 use Rattle.moves_tell.proofs.laws.Sized.{sized_one, sized_same, sized_then, sized_differing_not, sized_differing}
 use Rattle.moves_tell.proofs.Telling.{change_is}
-use borrow.Author.Rules.{rules}
 use Rattle.moves_tell.proofs.sizes.transition_size.Goals as goal
 
 pub returns-then-chart_state-to : goal.returns-then-chart_state-to

@@ -4,7 +4,6 @@ use mathlib.Core.Path.{sym}
 use Rattle.moves_tell.specs.Before.{take_entries}
 use Rattle.moves_tell.proofs.laws.Sized.{sized_same, sized_then}
 use Rattle.moves_tell.proofs.laws.Taking.{element_in, plain_values, interface_values}
-use borrow.Author.Rules.{rules}
 use Rattle.moves_tell.proofs.sizes.values_size.Goals as goal
 
 pub flag-requires : goal.flag-requires

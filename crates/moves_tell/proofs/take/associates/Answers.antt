@@ -1,15 +1,6 @@
 -- `associates` meets its contract. The invariant: none of the associations passed joins the variable.
 use native.Mathlib.Omega.{arith}
-use Prim.Native.Nat.{◌≤◌, ◌<◌, ◌-◌}
-use mathlib.Core.Bool.{true, false}
-use mathlib.Core.Path.{◌≡◌}
-use Rattle.rules_walks.specs.All.{any_to}
-use Rattle.rules_tables.specs.Kind.{of_input}
-use Rattle.rules_tables.specs.Ids.{first_association, associations}
-use Rattle.rules_tables.specs.Owned.{belongs}
-use Rattle.rules_moves.specs.Associated.{joins_variable}
 use Rattle.moves_tell.proofs.laws.Taking.{seek_first, seek_hit, seek_more, seek_end}
-use borrow.Author.Rules.{rules}
 use Rattle.moves_tell.proofs.take.associates.Goals as goal
 
 pub first_association-j-requires : goal.first_association-j-requires

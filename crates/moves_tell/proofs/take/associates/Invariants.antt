@@ -1,4 +1,3 @@
-use native.Mathlib.Omega.{arith}
 use Prim.Native.Nat.{◌≤◌, ◌<◌, ◌-◌}
 use mathlib.Core.Bool.{true, false}
 use mathlib.Core.Path.{◌≡◌}
@@ -7,8 +6,6 @@ use Rattle.rules_tables.specs.Kind.{of_input}
 use Rattle.rules_tables.specs.Ids.{first_association, associations}
 use Rattle.rules_tables.specs.Owned.{belongs}
 use Rattle.rules_moves.specs.Associated.{joins_variable}
-use Rattle.moves_tell.proofs.laws.Taking.{seek_first, seek_hit, seek_more, seek_end}
-use borrow.Author.Rules.{rules}
 use Rattle.moves_tell.proofs.take.associates.Given as goal
 
 abbrev pub invariant-loop-j : goal.invariant-loop-j

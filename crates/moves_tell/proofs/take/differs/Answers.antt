@@ -1,6 +1,5 @@
 -- `differs` meets its contract: the values first, and where they differ the associations.
 use Rattle.moves_tell.proofs.laws.Taking.{differs_not, differs_if}
-use borrow.Author.Rules.{rules}
 use Rattle.moves_tell.proofs.take.differs.Goals as goal
 
 pub returns-then-value_in-buffer_in : goal.returns-then-value_in-buffer_in

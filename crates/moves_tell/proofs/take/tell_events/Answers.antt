@@ -1,7 +1,6 @@
 -- `tell_events` meets its contract: one after another.
 use native.Mathlib.Omega.{arith}
 use Rattle.moves_tell.proofs.laws.Taking.{element_in, started_room, finished_room, selected_room, plain_told, partner_room, partner_told}
-use borrow.Author.Rules.{rules}
 use Rattle.moves_tell.proofs.take.tell_events.Goals as goal
 
 pub put_entry-a-requires : goal.put_entry-a-requires

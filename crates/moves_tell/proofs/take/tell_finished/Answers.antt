@@ -3,7 +3,6 @@ use native.Mathlib.Omega.{arith}
 use mathlib.Core.Path.{sym}
 use Rattle.moves_tell.proofs.laws.Told.{told_none, told_same, room_same}
 use Rattle.moves_tell.proofs.laws.Taking.{not_at_once, at_once}
-use borrow.Author.Rules.{rules}
 use Rattle.moves_tell.proofs.take.tell_finished.Goals as goal
 
 pub returns-then-flag-eq-BASIC : goal.returns-then-flag-eq-BASIC

@@ -1,10 +1,8 @@
 -- `tell_input` meets its contract.
 use native.Mathlib.Omega.{arith}
 use mathlib.Core.Path.{sym}
-use borrow.Author.Tests.{not-true, not-false}
 use Rattle.moves_tell.proofs.laws.Told.{told_none, told_same, room_same}
 use Rattle.moves_tell.proofs.laws.Taking.{sampled_none, sampled_is}
-use borrow.Author.Rules.{rules}
 use Rattle.moves_tell.proofs.take.tell_input.Goals as goal
 
 pub returns-then-not-differs : goal.returns-then-not-differs

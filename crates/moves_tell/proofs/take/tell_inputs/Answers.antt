@@ -1,15 +1,7 @@
 -- `tell_inputs` meets its contract. The invariant: the frames of the inputs passed are told; those of other variables are none.
 use native.Mathlib.Omega.{arith}
-use Prim.Native.Nat.{◌≤◌, ◌<◌, ◌-◌}
-use mathlib.Core.Bool.{true}
-use mathlib.Core.Path.{◌≡◌, refl, ap, ◌∙◌}
-use lib.ListN.{length}
-use Rattle.rules_tables.specs.Kind.{input}
-use Rattle.rules_tables.specs.Ids.{first_variable, variables}
-use Rattle.rules_tables.specs.Owned.{belongs}
+use mathlib.Core.Path.{refl, ap, ◌∙◌}
 use Rattle.rules_traces.specs.Gather.{gather}
-use Rattle.moves_tell.specs.Told.{Told}
-use Rattle.moves_tell.specs.Before.{sampled_entry}
 use Rattle.moves_tell.proofs.laws.Told.{told_first, told_next, told_same, told_length, room_more}
 use Rattle.moves_tell.proofs.laws.Partners.{not_sampled}
 use borrow.Author.Rules.{rules}

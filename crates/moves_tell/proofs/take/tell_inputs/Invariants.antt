@@ -1,7 +1,6 @@
-use native.Mathlib.Omega.{arith}
 use Prim.Native.Nat.{◌≤◌, ◌<◌, ◌-◌}
 use mathlib.Core.Bool.{true}
-use mathlib.Core.Path.{◌≡◌, refl, ap, ◌∙◌}
+use mathlib.Core.Path.{◌≡◌}
 use lib.ListN.{length}
 use Rattle.rules_tables.specs.Kind.{input}
 use Rattle.rules_tables.specs.Ids.{first_variable, variables}
@@ -9,9 +8,6 @@ use Rattle.rules_tables.specs.Owned.{belongs}
 use Rattle.rules_traces.specs.Gather.{gather}
 use Rattle.moves_tell.specs.Told.{Told}
 use Rattle.moves_tell.specs.Before.{sampled_entry}
-use Rattle.moves_tell.proofs.laws.Told.{told_first, told_next, told_same, told_length, room_more}
-use Rattle.moves_tell.proofs.laws.Partners.{not_sampled}
-use borrow.Author.Rules.{rules}
 use Rattle.moves_tell.proofs.take.tell_inputs.Given as goal
 
 abbrev pub invariant-loop-v : goal.invariant-loop-v

@@ -2,10 +2,8 @@
 use native.Mathlib.Omega.{arith}
 use mathlib.Core.Path.{sym, ◌∙◌}
 use mathlib.Core.List.{[]}
-use borrow.Author.Tests.{not-true, not-false}
 use Rattle.moves_tell.proofs.laws.Told.{told_none, told_same, room_same}
 use Rattle.moves_tell.proofs.laws.Taking.{pass_none, pass_one, pass_in, passed_none, passed_is}
-use borrow.Author.Rules.{rules}
 use Rattle.moves_tell.proofs.take.tell_output.Goals as goal
 
 pub returns-in_default : goal.returns-in_default

@@ -1,16 +1,8 @@
 -- `tell_outputs` meets its contract. The invariant: the frames of the partners of the inputs passed are told.
 use native.Mathlib.Omega.{arith}
-use Prim.Native.Nat.{◌≤◌, ◌<◌, ◌-◌}
-use mathlib.Core.Bool.{true}
-use mathlib.Core.Path.{◌≡◌, refl, ap, sym, ◌∙◌}
-use lib.ListN.{length}
-use Rattle.rules_tables.specs.Kind.{input}
-use Rattle.rules_tables.specs.Ids.{first_variable, variables}
-use Rattle.rules_tables.specs.Owned.{belongs}
+use mathlib.Core.Path.{refl, ap, sym, ◌∙◌}
 use Rattle.rules_traces.specs.Gather.{gather}
-use Rattle.moves_tell.specs.Told.{Told}
 use Rattle.moves_tell.specs.Before.{passed_entries}
-use Rattle.moves_tell.specs.Pairs.{partner_entry}
 use Rattle.moves_tell.proofs.laws.Told.{told_first, told_next, told_same, told_length, room_more, room_same}
 use Rattle.moves_tell.proofs.laws.Partners.{not_passed, in_order}
 use borrow.Author.Rules.{rules}

@@ -1,18 +1,13 @@
-use native.Mathlib.Omega.{arith}
 use Prim.Native.Nat.{◌≤◌, ◌<◌, ◌-◌}
 use mathlib.Core.Bool.{true}
-use mathlib.Core.Path.{◌≡◌, refl, ap, sym, ◌∙◌}
+use mathlib.Core.Path.{◌≡◌}
 use lib.ListN.{length}
 use Rattle.rules_tables.specs.Kind.{input}
 use Rattle.rules_tables.specs.Ids.{first_variable, variables}
 use Rattle.rules_tables.specs.Owned.{belongs}
 use Rattle.rules_traces.specs.Gather.{gather}
 use Rattle.moves_tell.specs.Told.{Told}
-use Rattle.moves_tell.specs.Before.{passed_entries}
 use Rattle.moves_tell.specs.Pairs.{partner_entry}
-use Rattle.moves_tell.proofs.laws.Told.{told_first, told_next, told_same, told_length, room_more, room_same}
-use Rattle.moves_tell.proofs.laws.Partners.{not_passed, in_order}
-use borrow.Author.Rules.{rules}
 use Rattle.moves_tell.proofs.take.tell_outputs.Given as goal
 
 abbrev pub invariant-loop-v : goal.invariant-loop-v

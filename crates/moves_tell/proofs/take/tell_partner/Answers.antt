@@ -2,7 +2,6 @@
 use mathlib.Core.Path.{sym}
 use Rattle.moves_tell.proofs.laws.Told.{told_none, told_same, room_same}
 use Rattle.moves_tell.proofs.Telling.{partner_none, partner_one, partner_below}
-use borrow.Author.Rules.{rules}
 use Rattle.moves_tell.proofs.take.tell_partner.Goals as goal
 
 pub partner_output-requires : goal.partner_output-requires

@@ -1,7 +1,6 @@
 -- `tell_take` meets its contract: what changes, then what happens.
 use Rattle.moves_tell.proofs.laws.Told.{room_first, room_rest, told_then}
 use Rattle.moves_tell.proofs.laws.Taking.{el_is}
-use borrow.Author.Rules.{rules}
 use Rattle.moves_tell.proofs.take.tell_take.Goals as goal
 
 pub tell_values-p-requires : goal.tell_values-p-requires

@@ -3,7 +3,6 @@ use mathlib.Core.Path.{sym}
 use Rattle.moves_tell.specs.Before.{take_entries}
 use Rattle.moves_tell.proofs.laws.Told.{room_first, room_rest, room_same, told_then, told_same}
 use Rattle.moves_tell.proofs.laws.Taking.{element_in, plain_values, interface_values}
-use borrow.Author.Rules.{rules}
 use Rattle.moves_tell.proofs.take.tell_values.Goals as goal
 
 pub tell_inputs-p-requires : goal.tell_inputs-p-requires

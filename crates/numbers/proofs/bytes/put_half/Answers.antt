@@ -1,7 +1,6 @@
 -- `number::bytes::put_half` meets its contract: two stores in a row are a run of two.
 use native.Mathlib.Numerals.{add-one}
 use Rattle.rules_numbers.specs.Bytes.{half_bytes}
-use borrow.Author.Rules.{rules}
 use Rattle.numbers.proofs.bytes.put_half.Goals as goal
 
 pub returns : goal.returns

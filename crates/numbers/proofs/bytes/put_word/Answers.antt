@@ -3,7 +3,6 @@ use Prim.Native.Nat.{◌+◌, ◌/◌, ◌%◌}
 use mathlib.Core.Path.{refl}
 use Rattle.rules_numbers.proofs.laws.Sets.{and_then_lem}
 use Rattle.rules_numbers.specs.Bytes.{half_bytes, word_bytes}
-use borrow.Author.Rules.{rules}
 use Rattle.numbers.proofs.bytes.put_word.Goals as goal
 
 pub returns : goal.returns

@@ -1,6 +1,5 @@
 -- `divide` meets its contract: only the lowest number by -1 leaves the range, and a divisor of -1 negates; any other quotient is kept by the clip.
 use mathlib.Core.Path.{◌∙◌, ap, sym}
-use borrow.Author.Rules.{rules}
 use native.Mathlib.Omega.{arith}
 use lib.Signed.{quot_z}
 use mir.Facts.{to_z-of_z}

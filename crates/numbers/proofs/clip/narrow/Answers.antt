@@ -1,6 +1,5 @@
 -- `narrow` meets its contract: its two tests are those of `clip`.
 use mathlib.Core.Path.{ap, ◌∙◌}
-use borrow.Author.Rules.{rules}
 use mir.Facts.{to_z-of_z}
 use Rattle.rules_numbers.specs.Truth.{itself}
 use Rattle.numbers.proofs.Signs.{within, clipped_low, clipped_high, clipped_kept}

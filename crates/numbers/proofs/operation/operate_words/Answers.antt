@@ -1,6 +1,5 @@
 -- `operate_words` meets its contract: the result that is told is in the signed range, so the machine reads it as it was written (`handed`).
 use mathlib.Core.Path.{ap, ◌∙◌}
-use borrow.Author.Rules.{rules}
 use Rattle.rules_numbers.specs.declared.Outcome.{Outcome}
 use Rattle.rules_numbers.specs.Word.{word}
 use Rattle.numbers.proofs.Signs.{handed}

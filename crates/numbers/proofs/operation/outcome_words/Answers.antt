@@ -1,6 +1,5 @@
 -- `outcome_words` meets its contract: what goes in is in the signed range, so the machine reads it as it was written (`handed`).
 use mathlib.Core.Path.{◌∙◌}
-use borrow.Author.Rules.{rules}
 use mir.Syntax.{w32}
 use mir.Facts.{to_z_pos}
 use Rattle.rules_numbers.specs.Truth.{outcome}

@@ -1,6 +1,5 @@
 -- `number::word::to_signed` meets its contract. The lower half of the words are their own values, and the upper half count down from -1 (`upper`).
 use mathlib.Core.Path.{◌∙◌}
-use borrow.Author.Rules.{rules}
 use mir.Facts.{to_z-of_z, sfits_to_z}
 use Rattle.numbers.proofs.Halves.{upper}
 use Rattle.numbers.proofs.word.to_signed.Goals as goal

@@ -1,9 +1,9 @@
 -- `feed` meets its contract. The invariant: the bytes before i were read, and there is room for what they printed.
-use Rattle.session_dialogue.proofs.Taking.{Reads, read_none, read_more, some_taken}
+use Rattle.session_dialogue.proofs.Taking.{read_none, read_more, some_taken}
 use native.Mathlib.Omega.{arith}
-use mathlib.Core.Path.{◌≡◌, refl, sym, ◌∙◌}
-use Prim.Native.Nat.{◌≤◌, ◌-◌, ◌+◌}
-use lib.ListN.{length, take}
+use mathlib.Core.Path.{refl, sym, ◌∙◌}
+use Prim.Native.Nat.{◌+◌}
+use lib.ListN.{length}
 use borrow.Author.Tests.{leb-true, leb-false}
 use borrow.Author.Rules.{rules}
 use Rattle.session_dialogue.proofs.feeding.feed.Goals as goal

@@ -1,10 +1,7 @@
-use Rattle.session_dialogue.proofs.Taking.{Reads, read_none, read_more, some_taken}
-use native.Mathlib.Omega.{arith}
-use mathlib.Core.Path.{◌≡◌, refl, sym, ◌∙◌}
-use Prim.Native.Nat.{◌≤◌, ◌-◌, ◌+◌}
+use Rattle.session_dialogue.proofs.Taking.{Reads}
+use mathlib.Core.Path.{◌≡◌}
+use Prim.Native.Nat.{◌≤◌, ◌-◌}
 use lib.ListN.{length, take}
-use borrow.Author.Tests.{leb-true, leb-false}
-use borrow.Author.Rules.{rules}
 use Rattle.session_dialogue.proofs.feeding.feed.Given as goal
 
 abbrev pub invariant-loop-i : goal.invariant-loop-i

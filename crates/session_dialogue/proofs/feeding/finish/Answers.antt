@@ -1,7 +1,6 @@
 -- `finish` meets its contract: the line that is left, if there is one, then the end.
 use Rattle.session_dialogue.proofs.Taking.{ends_bare, ends_line}
 use native.Mathlib.Omega.{arith}
-use borrow.Author.Rules.{rules}
 use Rattle.session_dialogue.proofs.feeding.finish.Goals as goal
 
 pub returns-then-length-eq0 : goal.returns-then-length-eq0

@@ -1,7 +1,6 @@
 -- `take_byte` meets its contract: the line that the byte ends, or one character more.
 use Rattle.session_dialogue.proofs.Taking.{line_ends, line_grows}
 use native.Mathlib.Omega.{arith}
-use borrow.Author.Rules.{rules}
 use Rattle.session_dialogue.proofs.feeding.take_byte.Goals as goal
 
 pub returns-then-b-eq10 : goal.returns-then-b-eq10

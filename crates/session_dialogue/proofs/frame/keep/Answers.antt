@@ -3,7 +3,6 @@ use Rattle.session_dialogue.proofs.Buffers.{frame_dropped, frame_kept}
 use Rattle.rules_sessions.specs.Line.{line_frame}
 use Rattle.rules_sessions.proofs.laws.Digits.{frame_length}
 use native.Mathlib.Omega.{arith}
-use borrow.Author.Rules.{rules}
 use Rattle.session_dialogue.proofs.frame.keep.Goals as goal
 
 pub returns-then-n-lt12 : goal.returns-then-n-lt12

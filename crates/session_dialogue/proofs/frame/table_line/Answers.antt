@@ -1,9 +1,7 @@
 -- `table_line` meets its contract: the frame is kept, or the line is malformed.
 use Rattle.session_dialogue.proofs.Telling.{took_is, right_frame, wrong_frame, table_grows}
 use native.Mathlib.Omega.{arith}
-use borrow.Author.Tests.{not-true, not-false}
 use mathlib.Core.Path.{sym, ◌∙◌}
-use borrow.Author.Rules.{rules}
 use Rattle.session_dialogue.proofs.frame.table_line.Goals as goal
 
 pub returns-then-not-line_ok : goal.returns-then-not-line_ok

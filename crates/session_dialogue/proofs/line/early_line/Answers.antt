@@ -1,7 +1,6 @@
 -- `early_line` meets its contract: the line ends the table, or is one of its frames.
 use Rattle.session_dialogue.proofs.Telling.{took_is, calm_more, opens_load, opens_not}
 use native.Mathlib.Omega.{arith}
-use borrow.Author.Rules.{rules}
 use Rattle.session_dialogue.proofs.line.early_line.Goals as goal
 
 pub returns-then-opens : goal.returns-then-opens

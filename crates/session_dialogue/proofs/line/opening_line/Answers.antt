@@ -1,7 +1,6 @@
 -- `opening_line` meets its contract: the load, and then the line, unless the load was refused.
 use Rattle.session_dialogue.proofs.Telling.{load_refused, load_done, calm_more, calm_then}
 use native.Mathlib.Omega.{arith}
-use borrow.Author.Rules.{rules}
 use Rattle.session_dialogue.proofs.line.opening_line.Goals as goal
 
 pub returns-then-stopped : goal.returns-then-stopped

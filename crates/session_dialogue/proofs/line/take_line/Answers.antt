@@ -2,7 +2,6 @@
 use Rattle.session_dialogue.proofs.Telling.{calm_more, calm_none, took_none, by_table, by_calls, by_values, by_stopped}
 use Rattle.rules_sessions.specs.Session.{Stage, halted, line_deed}
 use native.Mathlib.Omega.{arith}
-use borrow.Author.Rules.{rules}
 use Rattle.session_dialogue.proofs.line.take_line.Goals as goal
 
 pub returns-in-Table : goal.returns-in-Table

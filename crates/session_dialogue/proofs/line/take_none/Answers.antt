@@ -1,7 +1,6 @@
 -- `take_none` meets its contract: one case for each phase.
 use Rattle.session_dialogue.proofs.Telling.{calm_none, took_none, by_table, by_calls, by_values, by_stopped}
 use Rattle.rules_sessions.specs.Session.{halted, calling, end_deed}
-use borrow.Author.Rules.{rules}
 use Rattle.session_dialogue.proofs.line.take_none.Goals as goal
 
 pub returns-in-Table : goal.returns-in-Table

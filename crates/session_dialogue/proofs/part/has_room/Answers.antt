@@ -5,7 +5,6 @@ use Prim.Native.Nat.{◌+◌}
 use lib.ListN.{length}
 use mathlib.Core.Path.{sym}
 use borrow.Author.Tests.{lt-leb}
-use borrow.Author.Rules.{rules}
 use Rattle.session_dialogue.proofs.part.has_room.Goals as goal
 
 pub returns-then-text-n : goal.returns-then-text-n

@@ -1,7 +1,6 @@
 -- `one_more` meets its contract by its test.
 use Rattle.session_dialogue.specs.Standing.{one_more}
 use borrow.Author.Tests.{lt-ltb, le-ltb}
-use borrow.Author.Rules.{rules}
 use Rattle.session_dialogue.proofs.part.one_more.Goals as goal
 
 pub returns-then-n-most : goal.returns-then-n-most

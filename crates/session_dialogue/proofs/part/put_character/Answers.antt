@@ -1,7 +1,6 @@
 -- `put_character` meets its contract: past the end nothing is set.
 use lib.Seq.{set_out}
 use mathlib.Core.Path.{sym}
-use borrow.Author.Rules.{rules}
 use Rattle.session_dialogue.proofs.part.put_character.Goals as goal
 
 pub returns-else-at-line : goal.returns-else-at-line

@@ -1,7 +1,6 @@
 -- `put_value` meets its contract: past the end nothing is set.
 use lib.Seq.{set_out}
 use mathlib.Core.Path.{sym}
-use borrow.Author.Rules.{rules}
 use Rattle.session_dialogue.proofs.part.put_value.Goals as goal
 
 pub returns-else-at-values : goal.returns-else-at-values

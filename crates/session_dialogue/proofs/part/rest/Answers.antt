@@ -1,6 +1,5 @@
 -- `rest` meets its contract: the part that ends where the whole does.
 use Rattle.session_dialogue.proofs.Buffers.{part_rest}
-use borrow.Author.Rules.{rules}
 use Rattle.session_dialogue.proofs.part.rest.Goals as goal
 
 pub returns : goal.returns

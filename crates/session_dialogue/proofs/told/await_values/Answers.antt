@@ -1,7 +1,6 @@
 -- `await_values` meets its contract: the arrival is made, or waits.
 use Rattle.session_dialogue.proofs.Telling.{took_is, all_came, still_waits, told_calm}
 use native.Mathlib.Omega.{arith}
-use borrow.Author.Rules.{rules}
 use Rattle.session_dialogue.proofs.told.await_values.Goals as goal
 
 pub returns-then-got-n : goal.returns-then-got-n

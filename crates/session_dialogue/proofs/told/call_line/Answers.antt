@@ -5,7 +5,6 @@ use Rattle.rules_sessions.proofs.laws.Digits.{arrival_few}
 use native.Mathlib.Omega.{arith}
 use mathlib.Core.Path.{sym, ◌∙◌}
 use mathlib.Core.List.{[]}
-use borrow.Author.Rules.{rules}
 use Rattle.session_dialogue.proofs.told.call_line.Goals as goal
 
 pub returns-in-Wrong : goal.returns-in-Wrong

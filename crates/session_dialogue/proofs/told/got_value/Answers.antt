@@ -4,7 +4,6 @@ use mathlib.Core.Path.{◌≡◌, sym, subst}
 use mathlib.Core.List.{List}
 use Prim.Native.Nat.{ℕ}
 use Rattle.session_dialogue.specs.Standing.{Came}
-use borrow.Author.Rules.{rules}
 use Rattle.session_dialogue.proofs.told.got_value.Goals as goal
 
 came-is : (vs W : List ℕ) {n g k : ℕ} {X : List ℕ} → k ≡ g → W ≡ X → Came vs n g X → Came vs n k W

@@ -4,7 +4,6 @@ use Rattle.rules_sessions.specs.RecordLines.{records_by}
 use Rattle.session_dialogue.proofs.Telling.{run_printed, stretch_short, records_of}
 use native.Mathlib.Omega.{arith}
 use lib.ListN.{length}
-use borrow.Author.Rules.{rules}
 use Rattle.session_dialogue.proofs.told.put_run.Goals as goal
 
 pub put_records-from-requires : goal.put_records-from-requires

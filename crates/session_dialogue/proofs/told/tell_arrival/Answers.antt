@@ -2,7 +2,6 @@
 use Rattle.session_dialogue.proofs.Telling.{told_arrival, told_calm}
 use native.Mathlib.Omega.{arith}
 use mathlib.Core.Path.{refl}
-use borrow.Author.Rules.{rules}
 use Rattle.session_dialogue.proofs.told.tell_arrival.Goals as goal
 
 pub returns : goal.returns

@@ -1,7 +1,6 @@
 -- `tell_load` meets its contract: the call and its line; a table that is too long is refused, and so is what the buffer holds of it.
 use Rattle.session_dialogue.proofs.Telling.{told_load, told_calm}
 use native.Mathlib.Omega.{arith}
-use borrow.Author.Rules.{rules}
 use Rattle.session_dialogue.proofs.told.tell_load.Goals as goal
 
 pub returns : goal.returns

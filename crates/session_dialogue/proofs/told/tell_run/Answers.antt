@@ -2,7 +2,6 @@
 use Rattle.session_dialogue.proofs.Telling.{told_run, told_calm}
 use native.Mathlib.Omega.{arith}
 use mathlib.Core.Path.{refl}
-use borrow.Author.Rules.{rules}
 use Rattle.session_dialogue.proofs.told.tell_run.Goals as goal
 
 pub returns : goal.returns

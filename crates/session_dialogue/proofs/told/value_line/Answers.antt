@@ -1,7 +1,6 @@
 -- `value_line` meets its contract: one case for each command.
 use Rattle.session_dialogue.proofs.Telling.{took_is, value_by_lem}
 use Rattle.session_dialogue.proofs.Buffers.{came_more}
-use borrow.Author.Rules.{rules}
 use Rattle.session_dialogue.proofs.told.value_line.Goals as goal
 
 pub returns-in-Wrong : goal.returns-in-Wrong

@@ -1,5 +1,4 @@
 -- `put_answer` meets its contract: one case for each answer.
-use borrow.Author.Rules.{rules}
 use Rattle.session_lines.proofs.answer.put_answer.Goals as goal
 
 pub returns-in-Refused : goal.returns-in-Refused

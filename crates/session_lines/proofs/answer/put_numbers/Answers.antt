@@ -1,6 +1,5 @@
 -- `put_numbers` meets its contract: the frame is written part by part, then printed.
 use Rattle.session_lines.proofs.Printing.{frame_told, numbers_printed}
-use borrow.Author.Rules.{rules}
 use Rattle.session_lines.proofs.answer.put_numbers.Goals as goal
 
 pub returns : goal.returns

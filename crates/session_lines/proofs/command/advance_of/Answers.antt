@@ -1,6 +1,5 @@
 -- `advance_of` meets its contract: the unnamed fields are zero, or the form is wrong.
 use Rattle.rules_sessions.specs.Command.{advance_of}
-use borrow.Author.Rules.{rules}
 use Rattle.session_lines.proofs.command.advance_of.Goals as goal
 
 pub returns-then-plain : goal.returns-then-plain

@@ -1,6 +1,5 @@
 -- `arrival_of` meets its contract: the unnamed fields are zero, or the form is wrong.
 use Rattle.rules_sessions.specs.Command.{arrival_of}
-use borrow.Author.Rules.{rules}
 use Rattle.session_lines.proofs.command.arrival_of.Goals as goal
 
 pub returns-then-last_clear : goal.returns-then-last_clear

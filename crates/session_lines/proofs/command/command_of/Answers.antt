@@ -1,7 +1,6 @@
 -- `command_of` meets its contract: one kind for each arm.
 use Rattle.rules_sessions.specs.Command.{command_of}
 use borrow.Author.Tests.{ne_eqb}
-use borrow.Author.Rules.{rules}
 use Rattle.session_lines.proofs.command.command_of.Goals as goal
 
 pub returns-in-128 : goal.returns-in-128

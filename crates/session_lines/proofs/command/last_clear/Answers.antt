@@ -1,7 +1,6 @@
 -- `last_clear` meets its contract by what the fields are.
 use Rattle.rules_sessions.specs.Command.{last_clear}
 use borrow.Author.Tests.{eq-eqb, ne_eqb}
-use borrow.Author.Rules.{rules}
 use Rattle.session_lines.proofs.command.last_clear.Goals as goal
 
 pub returns-then-field-ne0 : goal.returns-then-field-ne0

@@ -1,7 +1,6 @@
 -- `line_command` meets its contract: the frame of a line of the form decides.
 use Rattle.lines.proofs.laws.Frame.{frame_whole}
 use Rattle.rules_sessions.specs.Command.{command_of, line_command}
-use borrow.Author.Tests.{not-true, not-false}
 use mathlib.Core.Path.{sym, ap, ◌∙◌}
 use borrow.Author.Rules.{rules}
 use Rattle.session_lines.proofs.command.line_command.Goals as goal

@@ -1,6 +1,5 @@
 -- `long` meets its contract by what the two fields are.
 use Rattle.rules_sessions.specs.Command.{long_at}
-use borrow.Author.Rules.{rules}
 use Rattle.session_lines.proofs.command.long.Goals as goal
 
 pub returns : goal.returns

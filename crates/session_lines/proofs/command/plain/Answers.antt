@@ -1,6 +1,5 @@
 -- `plain` meets its contract by what flag and fields are.
 use borrow.Author.Tests.{eq-eqb, ne_eqb}
-use borrow.Author.Rules.{rules}
 use Rattle.rules_sessions.specs.Command.{plain as «plain_at»}
 use Rattle.session_lines.proofs.command.plain.Goals as goal
 

@@ -1,7 +1,6 @@
 -- `value_of` meets its contract: the unnamed fields are zero, or the form is wrong.
 use Rattle.rules_sessions.specs.Command.{value_of}
 use borrow.Author.Tests.{eq-eqb, ne_eqb}
-use borrow.Author.Rules.{rules}
 use Rattle.session_lines.proofs.command.value_of.Goals as goal
 
 pub returns-then-flag-ne0 : goal.returns-then-flag-ne0

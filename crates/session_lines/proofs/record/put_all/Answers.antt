@@ -1,13 +1,12 @@
 -- `put_all` meets its contract. The invariant (`Printed`): what was printed so far, and what is left.
 use Rattle.rules_numbers.specs.Bytes.{half_at}
-use Prim.Native.Nat.{◌≤◌, ◌-◌, ◌+◌}
+use Prim.Native.Nat.{◌+◌}
 use Rattle.rules_sessions.proofs.laws.RunLines.{least_size}
-use Rattle.session_lines.proofs.Splitting.{Printed, printed_none, printed_more, printed_all}
+use Rattle.session_lines.proofs.Splitting.{printed_none, printed_more, printed_all}
 use Rattle.rules_moves.specs.Record.{record_size}
-use lib.ListN.{length, length-take, length-drop}
-use mathlib.Core.Path.{◌≡◌, refl, ap, ◌∙◌}
+use lib.ListN.{length-take, length-drop}
+use mathlib.Core.Path.{refl, ap, ◌∙◌}
 use native.Mathlib.Omega.{arith}
-use borrow.Author.Rules.{rules}
 use Rattle.session_lines.proofs.record.put_all.Goals as goal
 
 pub loop-from-init : goal.loop-from-init

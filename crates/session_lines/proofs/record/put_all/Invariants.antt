@@ -1,12 +1,8 @@
-use Rattle.rules_numbers.specs.Bytes.{half_at}
-use Prim.Native.Nat.{◌≤◌, ◌-◌, ◌+◌}
-use Rattle.rules_sessions.proofs.laws.RunLines.{least_size}
-use Rattle.session_lines.proofs.Splitting.{Printed, printed_none, printed_more, printed_all}
+use Prim.Native.Nat.{◌≤◌, ◌-◌}
+use Rattle.session_lines.proofs.Splitting.{Printed}
 use Rattle.rules_moves.specs.Record.{record_size}
-use lib.ListN.{length, length-take, length-drop}
-use mathlib.Core.Path.{◌≡◌, refl, ap, ◌∙◌}
-use native.Mathlib.Omega.{arith}
-use borrow.Author.Rules.{rules}
+use lib.ListN.{length}
+use mathlib.Core.Path.{◌≡◌}
 use Rattle.session_lines.proofs.record.put_all.Given as goal
 
 abbrev pub invariant-loop-from : goal.invariant-loop-from

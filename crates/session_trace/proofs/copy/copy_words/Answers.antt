@@ -1,11 +1,9 @@
 -- `copy_words` meets its contract. The invariant: the words passed are copied.
 use Rattle.session_trace.proofs.Printing.{word_more}
 use Rattle.session_trace.proofs.Copying.{copied}
-use lib.ListN.{length, take}
-use lib.Seq.{sets}
+use lib.ListN.{length}
 use mathlib.Core.Path.{◌≡◌, refl}
 use native.Mathlib.Omega.{arith}
-use Prim.Native.Nat.{◌≤◌, ◌-◌}
 use borrow.Author.Rules.{rules}
 use Rattle.session_trace.proofs.copy.copy_words.Goals as goal
 

@@ -1,10 +1,7 @@
 -- `put_lines` meets its contract. The invariant (`Lined`): the lines of the frames passed are written.
-use Rattle.session_trace.proofs.Lining.{Lined, lined_none, lined_more, lined_all}
-use lib.ListN.{length}
-use mathlib.Core.Path.{◌≡◌, refl}
+use Rattle.session_trace.proofs.Lining.{lined_none, lined_more, lined_all}
+use mathlib.Core.Path.{refl}
 use native.Mathlib.Omega.{arith}
-use Prim.Native.Nat.{◌≤◌, ◌-◌, ◌/◌}
-use borrow.Author.Rules.{rules}
 use Rattle.session_trace.proofs.frames.put_lines.Goals as goal
 
 pub loop-k-init : goal.loop-k-init

@@ -1,9 +1,7 @@
-use Rattle.session_trace.proofs.Lining.{Lined, lined_none, lined_more, lined_all}
+use Rattle.session_trace.proofs.Lining.{Lined}
 use lib.ListN.{length}
-use mathlib.Core.Path.{◌≡◌, refl}
-use native.Mathlib.Omega.{arith}
+use mathlib.Core.Path.{◌≡◌}
 use Prim.Native.Nat.{◌≤◌, ◌-◌, ◌/◌}
-use borrow.Author.Rules.{rules}
 use Rattle.session_trace.proofs.frames.put_lines.Given as goal
 
 abbrev pub invariant-loop-k : goal.invariant-loop-k

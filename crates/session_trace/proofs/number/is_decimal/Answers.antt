@@ -1,7 +1,6 @@
 -- `is_decimal` meets its contract by its test.
 use Rattle.session_trace.specs.Number.{is_decimal}
 use borrow.Author.Tests.{lt-leb, le-leb}
-use borrow.Author.Rules.{rules}
 use Rattle.session_trace.proofs.number.is_decimal.Goals as goal
 
 pub returns-then-c-lt48 : goal.returns-then-c-lt48

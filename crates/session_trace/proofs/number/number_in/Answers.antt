@@ -1,11 +1,8 @@
 -- `number_in` meets its contract. The invariant (`Counted`): the characters passed are digits, and what they count.
-use Rattle.session_trace.proofs.Counting.{decimal_most, Counted, counted_none, counted_fits, counted_more, number_none, number_long, number_bad, number_is}
+use Rattle.session_trace.proofs.Counting.{decimal_most, counted_none, counted_fits, counted_more, number_none, number_long, number_bad, number_is}
 use lib.ListN.{length}
 use mathlib.Core.Path.{◌≡◌, refl, sym, ◌∙◌}
-use borrow.Author.Tests.{not-true, not-false}
 use native.Mathlib.Omega.{arith}
-use Prim.Native.Nat.{◌≤◌, ◌-◌}
-use borrow.Author.Rules.{rules}
 use Rattle.session_trace.proofs.number.number_in.Goals as goal
 
 pub returns-then-size-eq0 : goal.returns-then-size-eq0

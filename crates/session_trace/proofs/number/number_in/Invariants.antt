@@ -1,10 +1,6 @@
-use Rattle.session_trace.proofs.Counting.{decimal_most, Counted, counted_none, counted_fits, counted_more, number_none, number_long, number_bad, number_is}
+use Rattle.session_trace.proofs.Counting.{Counted}
 use lib.ListN.{length}
-use mathlib.Core.Path.{◌≡◌, refl, sym, ◌∙◌}
-use borrow.Author.Tests.{not-true, not-false}
-use native.Mathlib.Omega.{arith}
 use Prim.Native.Nat.{◌≤◌, ◌-◌}
-use borrow.Author.Rules.{rules}
 use Rattle.session_trace.proofs.number.number_in.Given as goal
 
 abbrev pub invariant-loop-i : goal.invariant-loop-i

@@ -1,8 +1,6 @@
 -- `goes_on` meets its contract by its test.
 use Rattle.session_trace.specs.Pieces.{goes_on}
 use borrow.Author.Tests.{eq-eqb, ne_eqb}
-use mathlib.Core.Path.{sym, ◌∙◌}
-use borrow.Author.Rules.{rules}
 use Rattle.session_trace.proofs.piece.goes_on.Goals as goal
 
 pub returns-then-stop-ne-NO_TRACE_ROOM : goal.returns-then-stop-ne-NO_TRACE_ROOM

@@ -1,8 +1,6 @@
 -- `put_store` meets its contract by what the check says of the table.
 use Rattle.session_trace.proofs.Piecing.{store_none, store_good, store_some}
-use mathlib.Core.Path.{◌≡◌}
 use native.Mathlib.Omega.{arith}
-use borrow.Author.Rules.{rules}
 use Rattle.session_trace.proofs.piece.put_store.Goals as goal
 
 pub returns-in_default : goal.returns-in_default

@@ -1,6 +1,5 @@
 -- `show_piece` meets its contract: a piece, and a reading of its lines.
 use Rattle.session_trace.proofs.Piecing.{seen_is}
-use borrow.Author.Rules.{rules}
 use Rattle.session_trace.proofs.piece.show_piece.Goals as goal
 
 pub returns : goal.returns

@@ -1,9 +1,7 @@
 -- `trace_piece` meets its contract: a traced run, and its trace as lines.
 use Rattle.session_trace.proofs.Piecing.{moves_within, bytes_within, lines_printed}
 use lib.ListN.{length-take}
-use mathlib.Core.Path.{refl}
 use native.Mathlib.Omega.{arith}
-use borrow.Author.Rules.{rules}
 use Rattle.session_trace.proofs.piece.trace_piece.Goals as goal
 
 pub put_lines-at-requires : goal.put_lines-at-requires

@@ -1,6 +1,5 @@
 -- `put_element` meets its contract: the line, then its variables.
 use Rattle.session_trace.proofs.Walking.{element_printed}
-use borrow.Author.Rules.{rules}
 use Rattle.session_trace.proofs.shown.put_element.Goals as goal
 
 pub returns : goal.returns

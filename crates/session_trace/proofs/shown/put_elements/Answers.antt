@@ -1,10 +1,7 @@
 -- `put_elements` meets its contract. The invariant (`Passed`): the elements passed are printed.
-use Rattle.session_trace.proofs.Walking.{Passed, passed_none, element_room, passed_more, passed_all}
-use Rattle.rules_tables.specs.Ids.{elements}
-use lib.ListN.{length}
-use mathlib.Core.Path.{◌≡◌, refl}
+use Rattle.session_trace.proofs.Walking.{passed_none, element_room, passed_more, passed_all}
+use mathlib.Core.Path.{refl}
 use native.Mathlib.Omega.{arith}
-use Prim.Native.Nat.{◌≤◌, ◌-◌}
 use borrow.Author.Rules.{rules}
 use Rattle.session_trace.proofs.shown.put_elements.Goals as goal
 

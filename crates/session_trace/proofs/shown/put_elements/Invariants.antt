@@ -1,10 +1,8 @@
-use Rattle.session_trace.proofs.Walking.{Passed, passed_none, element_room, passed_more, passed_all}
+use Rattle.session_trace.proofs.Walking.{Passed}
 use Rattle.rules_tables.specs.Ids.{elements}
 use lib.ListN.{length}
-use mathlib.Core.Path.{◌≡◌, refl}
-use native.Mathlib.Omega.{arith}
+use mathlib.Core.Path.{◌≡◌}
 use Prim.Native.Nat.{◌≤◌, ◌-◌}
-use borrow.Author.Rules.{rules}
 use Rattle.session_trace.proofs.shown.put_elements.Given as goal
 
 abbrev pub invariant-loop-el : goal.invariant-loop-el

@@ -1,6 +1,5 @@
 -- `put_line_of` meets its contract: what the calls print, one after another, is the line.
 use Rattle.session_trace.proofs.Showing.{element_told}
-use borrow.Author.Rules.{rules}
 use Rattle.session_trace.proofs.shown.put_line_of.Goals as goal
 
 pub returns : goal.returns

@@ -2,7 +2,6 @@
 use Rattle.session_trace.proofs.Printing.{prints_is}
 use Rattle.session_trace.proofs.Showing.{role_input, role_output, role_internal}
 use native.Mathlib.Omega.{arith}
-use borrow.Author.Rules.{rules}
 use Rattle.session_trace.proofs.shown.put_role.Goals as goal
 
 pub returns-then-role-eq-INPUT : goal.returns-then-role-eq-INPUT

@@ -2,7 +2,6 @@
 use Rattle.session_trace.proofs.Printing.{prints_is}
 use Rattle.session_trace.proofs.Showing.{sort_basic, sort_interface, sort_delay, sort_source, sort_sink}
 use native.Mathlib.Omega.{arith}
-use borrow.Author.Rules.{rules}
 use Rattle.session_trace.proofs.shown.put_sort.Goals as goal
 
 pub returns-then-sort-eq-BASIC : goal.returns-then-sort-eq-BASIC

@@ -1,6 +1,5 @@
 -- `put_state` meets its contract by its test.
 use Rattle.session_trace.proofs.Showing.{state_none, state_told}
-use borrow.Author.Rules.{rules}
 use Rattle.session_trace.proofs.shown.put_state.Goals as goal
 
 pub returns-then-sort-ne-BASIC : goal.returns-then-sort-ne-BASIC

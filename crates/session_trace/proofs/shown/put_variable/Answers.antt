@@ -1,6 +1,5 @@
 -- `put_variable` meets its contract: what the calls print, one after another, is the line.
 use Rattle.session_trace.proofs.Showing.{variable_told}
-use borrow.Author.Rules.{rules}
 use Rattle.session_trace.proofs.shown.put_variable.Goals as goal
 
 pub returns : goal.returns

@@ -1,11 +1,8 @@
 -- `put_variables` meets its contract. The invariant (`Listed`): the lines of the variables passed are printed.
-use Rattle.session_trace.proofs.Walking.{Listed, listed_none, listed_more, listed_all}
+use Rattle.session_trace.proofs.Walking.{listed_none, listed_more, listed_all}
 use Rattle.session_trace.proofs.Owning.{owned_room}
-use Rattle.rules_tables.specs.Ids.{variables}
-use lib.ListN.{length}
-use mathlib.Core.Path.{◌≡◌, refl}
+use mathlib.Core.Path.{refl}
 use native.Mathlib.Omega.{arith}
-use Prim.Native.Nat.{◌≤◌, ◌-◌}
 use borrow.Author.Rules.{rules}
 use Rattle.session_trace.proofs.shown.put_variables.Goals as goal
 

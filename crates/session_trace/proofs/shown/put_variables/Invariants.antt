@@ -1,11 +1,8 @@
-use Rattle.session_trace.proofs.Walking.{Listed, listed_none, listed_more, listed_all}
-use Rattle.session_trace.proofs.Owning.{owned_room}
+use Rattle.session_trace.proofs.Walking.{Listed}
 use Rattle.rules_tables.specs.Ids.{variables}
 use lib.ListN.{length}
-use mathlib.Core.Path.{◌≡◌, refl}
-use native.Mathlib.Omega.{arith}
+use mathlib.Core.Path.{◌≡◌}
 use Prim.Native.Nat.{◌≤◌, ◌-◌}
-use borrow.Author.Rules.{rules}
 use Rattle.session_trace.proofs.shown.put_variables.Given as goal
 
 abbrev pub invariant-loop-v : goal.invariant-loop-v

@@ -1,7 +1,6 @@
 -- `put_number` meets its contract: the library puts the fewest digits, and those are the number's.
 use Rattle.session_trace.proofs.Decimal.{few_digits, number_told}
 use native.Mathlib.Omega.{arith}
-use borrow.Author.Rules.{rules}
 use Rattle.session_trace.proofs.words.put_number.Goals as goal
 
 pub put_word-requires : goal.put_word-requires

@@ -1,7 +1,6 @@
 -- `put_signed` meets its contract: a sign where the word is negative.
 use Rattle.session_trace.proofs.Decimal.{signed_plain, signed_negative}
 use native.Mathlib.Omega.{arith}
-use borrow.Author.Rules.{rules}
 use Rattle.session_trace.proofs.words.put_signed.Goals as goal
 
 pub returns-then-w-lt-NEGATIVE : goal.returns-then-w-lt-NEGATIVE

@@ -1,10 +1,8 @@
 -- `put_word` meets its contract. The invariant: the bytes passed are written.
 use Rattle.session_trace.proofs.Printing.{word_more, word_all}
-use lib.ListN.{length, take}
-use lib.Seq.{sets}
+use lib.ListN.{length}
 use mathlib.Core.Path.{◌≡◌, refl}
 use native.Mathlib.Omega.{arith}
-use Prim.Native.Nat.{◌≤◌, ◌-◌}
 use borrow.Author.Rules.{rules}
 use Rattle.session_trace.proofs.words.put_word.Goals as goal
 

@@ -1,10 +1,7 @@
-use Rattle.session_trace.proofs.Printing.{word_more, word_all}
 use lib.ListN.{length, take}
 use lib.Seq.{sets}
-use mathlib.Core.Path.{◌≡◌, refl}
-use native.Mathlib.Omega.{arith}
+use mathlib.Core.Path.{◌≡◌}
 use Prim.Native.Nat.{◌≤◌, ◌-◌}
-use borrow.Author.Rules.{rules}
 use Rattle.session_trace.proofs.words.put_word.Given as goal
 
 abbrev pub invariant-loop-i : goal.invariant-loop-i

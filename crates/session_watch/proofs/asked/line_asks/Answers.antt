@@ -1,7 +1,4 @@
 -- `line_asks` meets its contract by its match over the phase.
-use Rattle.session_watch.specs.Asked.{asked_by, asked_in}
-use mathlib.Core.Path.{sym, ap, ◌∙◌}
-use borrow.Author.Rules.{rules}
 use Rattle.session_watch.proofs.asked.line_asks.Goals as goal
 
 pub returns-in-Calls : goal.returns-in-Calls

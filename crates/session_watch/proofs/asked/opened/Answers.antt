@@ -1,8 +1,6 @@
 -- `opened` meets its contract by its tests: only the line that ends the table loads it.
 use Rattle.session_watch.proofs.Opening.{opened_load, opened_not, opened_past}
-use borrow.Author.Tests.{not-true, not-false}
 use mathlib.Core.Path.{sym, ◌∙◌}
-use borrow.Author.Rules.{rules}
 use Rattle.session_watch.proofs.asked.opened.Goals as goal
 
 pub returns-then-not-in_table : goal.returns-then-not-in_table

@@ -1,5 +1,4 @@
 -- `chart_ok` meets its contract: basic or not, then the state's bound and its element.
-use borrow.Author.Rules.{rules}
 use Rattle.rules_store.specs.WellFormed.{chart_ok}
 use borrow.Author.Tests.{lt-ltb, le-ltb, eq-eqb, ne_eqb}
 use Rattle.store_load.proofs.formed.chart_ok.Goals as goal

@@ -1,5 +1,4 @@
 -- `due_ok` meets its contract: no flag, then the flag, the kind of element and the two bounds.
-use borrow.Author.Rules.{rules}
 use Rattle.rules_store.specs.WellFormed.{due_ok}
 use borrow.Author.Tests.{le-leb, lt-leb, eq-eqb, ne_eqb}
 use Rattle.store_load.proofs.formed.due_ok.Goals as goal

@@ -1,5 +1,4 @@
 -- `element_ok` meets its contract by those of `chart_ok` and `due_ok`.
-use borrow.Author.Rules.{rules}
 use Rattle.rules_store.specs.WellFormed.{element_ok}
 use Rattle.store_load.proofs.formed.element_ok.Goals as goal
 

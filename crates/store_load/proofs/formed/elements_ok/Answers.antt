@@ -1,14 +1,9 @@
 -- `elements_ok` meets its contract. The invariant: the elements passed are well formed.
-use Rattle.rules_walks.specs.All.{all_to}
 use Rattle.rules_walks.proofs.laws.All.{all_none, all_more, all_stop}
-use Rattle.rules_store.specs.WellFormed.{element_ok}
 use borrow.Author.Rules.{rules}
-use borrow.Author.Tests.{not-true, not-false}
-use mathlib.Core.Bool.{true}
 use mathlib.Core.Path.{◌≡◌, sym, ◌∙◌}
 use native.Mathlib.Omega.{arith}
 use Rattle.rules_tables.specs.Ids.{elements}
-use Prim.Native.Nat.{◌≤◌, ◌-◌}
 use Rattle.store_load.proofs.formed.elements_ok.Goals as goal
 
 pub loop-el-init : goal.loop-el-init

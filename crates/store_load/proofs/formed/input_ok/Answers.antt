@@ -1,5 +1,4 @@
 -- `input_ok` meets its contract: no flag and zeros, or the flag and the two bounds.
-use borrow.Author.Rules.{rules}
 use Rattle.rules_store.specs.WellFormed.{input_ok}
 use borrow.Author.Tests.{le-leb, lt-leb, eq-eqb, ne_eqb}
 use Rattle.store_load.proofs.formed.input_ok.Goals as goal

@@ -1,7 +1,5 @@
 -- `parts_ok` meets its contract by those of its three parts.
-use borrow.Author.Rules.{rules}
 use Rattle.rules_store.specs.WellFormed.{parts_ok}
-use borrow.Author.Tests.{not-true, not-false}
 use Rattle.store_load.proofs.formed.parts_ok.Goals as goal
 
 pub returns-then-not-elements_ok : goal.returns-then-not-elements_ok

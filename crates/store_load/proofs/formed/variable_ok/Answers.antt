@@ -1,5 +1,4 @@
 -- `variable_ok` meets its contract: an input, or a buffer of 0.
-use borrow.Author.Rules.{rules}
 use Rattle.rules_store.specs.WellFormed.{variable_ok}
 use borrow.Author.Tests.{eq-eqb, ne_eqb}
 use Rattle.store_load.proofs.formed.variable_ok.Goals as goal

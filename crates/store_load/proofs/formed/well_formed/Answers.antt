@@ -1,7 +1,6 @@
 -- `well_formed` meets its contract: the time, the spare words, the next due time, the running block, the parts.
-use borrow.Author.Rules.{rules}
 use Rattle.rules_store.specs.WellFormed.{well_formed}
-use borrow.Author.Tests.{le-leb, lt-leb, not-true, not-false}
+use borrow.Author.Tests.{le-leb, lt-leb}
 use Rattle.store_load.proofs.formed.well_formed.Goals as goal
 
 pub returns-then-time-gt-LARGEST_TIME : goal.returns-then-time-gt-LARGEST_TIME

@@ -1,5 +1,4 @@
 -- `mode_ok` meets its contract: mode 1, then mode 2, each with its zeros.
-use borrow.Author.Rules.{rules}
 use Rattle.rules_store.specs.WellFormed.{mode_ok}
 use borrow.Author.Tests.{le-leb, lt-leb, eq-eqb, ne_eqb}
 use Rattle.store_load.proofs.header.mode_ok.Goals as goal

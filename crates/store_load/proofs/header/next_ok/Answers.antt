@@ -1,5 +1,4 @@
 -- `next_ok` meets its contract: the two words, each held to what looking found.
-use borrow.Author.Rules.{rules}
 use borrow.Author.Tests.{eq-eqb, ne_eqb}
 use Rattle.rules_store.specs.WellFormed.{is_next, next_ok}
 use Rattle.store_load.proofs.header.next_ok.Goals as goal

@@ -1,5 +1,4 @@
 -- `owner_ok` meets its contract: the element is there and basic, the event is there and its own.
-use borrow.Author.Rules.{rules}
 use Rattle.rules_store.specs.WellFormed.{owner_ok}
 use borrow.Author.Tests.{le-leb, lt-leb, eq-eqb, ne_eqb}
 use Rattle.store_load.proofs.header.owner_ok.Goals as goal

@@ -1,5 +1,4 @@
 -- `rest_ok` meets its contract: the words in their order.
-use borrow.Author.Rules.{rules}
 use Rattle.rules_store.specs.WellFormed.{rest_ok}
 use borrow.Author.Tests.{eq-eqb, ne_eqb}
 use Rattle.store_load.proofs.header.rest_ok.Goals as goal

@@ -1,9 +1,7 @@
 -- `running_ok` meets its contract: idle or not, then owner, birth and mode.
-use borrow.Author.Rules.{rules}
 use Rattle.rules_store.specs.WellFormed.{running_ok}
 use Rattle.store_load.proofs.Turns.{owner_some}
-use borrow.Author.Tests.{le-leb, lt-leb, eq-eqb, ne_eqb, not-true, not-false}
-use mathlib.Core.Bool.{not}
+use borrow.Author.Tests.{le-leb, lt-leb, eq-eqb, ne_eqb}
 use mathlib.Core.Path.{sym, ◌∙◌}
 use Rattle.store_load.proofs.header.running_ok.Goals as goal
 

@@ -1,12 +1,8 @@
 use Rattle.rules_walks.specs.All.{all_to}
-use Rattle.rules_walks.proofs.laws.All.{all_none, all_more, all_stop}
 use Rattle.rules_store.specs.Word.{spares}
 use Rattle.rules_store.specs.WellFormed.{spare_ok}
-use borrow.Author.Rules.{rules}
-use borrow.Author.Tests.{eq-eqb, ne_eqb}
 use mathlib.Core.Bool.{true}
-use mathlib.Core.Path.{◌≡◌, sym}
-use native.Mathlib.Omega.{arith}
+use mathlib.Core.Path.{◌≡◌}
 use Prim.Native.Nat.{◌≤◌, ◌-◌}
 use Rattle.store_load.proofs.header.spares_ok.Given as goal
 

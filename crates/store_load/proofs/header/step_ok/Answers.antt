@@ -1,5 +1,4 @@
 -- `step_ok` meets its contract: what was found decides (`step_none`, `step_one`).
-use borrow.Author.Rules.{rules}
 use Rattle.store_words.proofs.laws.Found.{action_in}
 use Rattle.store_load.proofs.Turns.{step_none, step_one}
 use borrow.Author.Tests.{eq-eqb, ne_eqb}

@@ -1,14 +1,9 @@
 -- `initial_states` meets its contract. The invariant: the elements passed have their initial states.
-use Rattle.rules_walks.specs.Walk.{up_to}
 use Rattle.rules_walks.proofs.laws.Walk.{up_to_none, up_to_more, up_to_end}
-use Rattle.rules_store.specs.Load.{initial}
 use Rattle.store_load.proofs.Turns.{initial_basic, initial_other}
-use borrow.Author.Rules.{rules}
 use lib.ListN.{length}
-use mathlib.Core.Logic.{⊎_elim}
-use mathlib.Core.Path.{◌≡◌, refl, ap, ◌∙◌}
+use mathlib.Core.Path.{refl, ap, ◌∙◌}
 use native.Mathlib.Omega.{arith}
-use Prim.Native.Nat.{◌≤◌, ◌-◌}
 use Rattle.store_load.proofs.load.initial_states.Goals as goal
 use Rattle.store_load.proofs.load.initial_states.Goals.{then-flag-eq-BASIC, else-flag-eq-BASIC}
 

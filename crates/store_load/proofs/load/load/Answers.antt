@@ -1,7 +1,5 @@
 -- `load` meets its contract: three walks, one after the other.
-use borrow.Author.Rules.{rules}
 use Rattle.rules_store.specs.Load.{loaded}
-use Prim.Native.Nat.{zero}
 use Rattle.store_load.proofs.load.load.Goals as goal
 
 pub returns : goal.returns

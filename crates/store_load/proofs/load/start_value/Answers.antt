@@ -1,5 +1,4 @@
 -- `start_value` meets its contract: the high half, then the low one.
-use borrow.Author.Rules.{rules}
 use Rattle.rules_store.specs.Load.{start_value}
 use Rattle.store_load.proofs.load.start_value.Goals as goal
 

@@ -1,12 +1,7 @@
 -- `start_values` meets its contract. The invariant: the variables passed have their start values.
-use Rattle.rules_walks.specs.Walk.{up_to}
 use Rattle.rules_walks.proofs.laws.Walk.{up_to_none, up_to_more, up_to_end}
-use Rattle.rules_store.specs.Load.{start}
-use borrow.Author.Rules.{rules}
-use lib.ListN.{length}
-use mathlib.Core.Path.{◌≡◌, refl}
+use mathlib.Core.Path.{refl}
 use native.Mathlib.Omega.{arith}
-use Prim.Native.Nat.{◌≤◌, ◌-◌}
 use Rattle.store_load.proofs.load.start_values.Goals as goal
 
 pub loop-v-init : goal.loop-v-init

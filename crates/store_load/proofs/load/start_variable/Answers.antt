@@ -1,5 +1,4 @@
 -- `start_variable` meets its contract: the value, and the buffer of an input.
-use borrow.Author.Rules.{rules}
 use Rattle.rules_walks.specs.Choose.{choose}
 use Rattle.rules_store.specs.Load.{start}
 use borrow.Author.Tests.{eq-eqb, ne_eqb}

@@ -1,11 +1,8 @@
 -- `zero` meets its contract. The invariant: the first k words are zeroed.
 use Rattle.rules_walks.proofs.laws.Walk.{up_to_none, up_to_more, up_to_end}
-use Rattle.rules_store.specs.Load.{zeroes}
-use borrow.Author.Rules.{rules}
-use lib.ListN.{length, length-set}
-use mathlib.Core.Path.{◌≡◌, refl}
+use lib.ListN.{length-set}
+use mathlib.Core.Path.{refl}
 use native.Mathlib.Omega.{arith}
-use Prim.Native.Nat.{◌≤◌, ◌-◌}
 use Rattle.store_load.proofs.load.zero.Goals as goal
 
 pub loop-k-init : goal.loop-k-init

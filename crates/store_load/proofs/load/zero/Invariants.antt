@@ -1,9 +1,6 @@
-use Rattle.rules_walks.proofs.laws.Walk.{up_to_none, up_to_more, up_to_end}
 use Rattle.rules_store.specs.Load.{zeroes}
-use borrow.Author.Rules.{rules}
-use lib.ListN.{length, length-set}
-use mathlib.Core.Path.{◌≡◌, refl}
-use native.Mathlib.Omega.{arith}
+use lib.ListN.{length}
+use mathlib.Core.Path.{◌≡◌}
 use Prim.Native.Nat.{◌≤◌, ◌-◌}
 use Rattle.store_load.proofs.load.zero.Given as goal
 

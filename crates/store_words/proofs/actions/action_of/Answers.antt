@@ -1,5 +1,4 @@
 -- `action_of` meets its contract by that of `nth`.
-use borrow.Author.Rules.{rules}
 use Rattle.rules_tables.specs.Actions.{action_of}
 use borrow.Author.Tests.{ne_eqb}
 use Rattle.store_words.proofs.actions.action_of.Goals as goal

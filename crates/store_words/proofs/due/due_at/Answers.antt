@@ -1,5 +1,4 @@
 -- `due_at` meets its contract: the flag, then the time.
-use borrow.Author.Rules.{rules}
 use Rattle.rules_store.specs.Due.{due_at}
 use borrow.Author.Tests.{ne_eqb}
 use Rattle.store_words.proofs.due.due_at.Goals as goal

@@ -1,6 +1,4 @@
 -- `due_behind` meets its contract: the element that it stops at is the one.
-use borrow.Author.Rules.{rules}
-use Prim.Native.Nat.{◌-◌, ◌<◌, ◌≤◌}
 use Rattle.rules_walks.proofs.laws.Pick.{clash}
 use Rattle.store_words.proofs.laws.Due.{behind_found}
 use Rattle.store_words.proofs.due.due_behind.Goals as goal

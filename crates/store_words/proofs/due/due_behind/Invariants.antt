@@ -1,7 +1,4 @@
-use borrow.Author.Rules.{rules}
 use Prim.Native.Nat.{◌-◌, ◌<◌, ◌≤◌}
-use Rattle.rules_walks.proofs.laws.Pick.{clash}
-use Rattle.store_words.proofs.laws.Due.{behind_found}
 use Rattle.store_words.proofs.due.due_behind.Given as goal
 
 abbrev pub invariant-loop-k : goal.invariant-loop-k

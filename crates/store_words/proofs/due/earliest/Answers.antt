@@ -1,9 +1,7 @@
 -- `earliest` meets its contract. The invariant: what is found so far is what the elements passed have.
 use borrow.Author.Rules.{rules}
-use mathlib.Core.Logic.{⊎_elim}
 use mathlib.Core.Path.{◌≡◌, refl, ◌∙◌}
 use native.Mathlib.Omega.{arith}
-use Prim.Native.Nat.{◌-◌, ◌≤◌}
 use Rattle.rules_store.specs.Due.{earliest}
 use Rattle.store_words.proofs.laws.Due.{look_idle, look_due}
 use Rattle.store_words.proofs.due.earliest.Goals as goal

@@ -1,10 +1,6 @@
-use borrow.Author.Rules.{rules}
-use mathlib.Core.Logic.{⊎_elim}
-use mathlib.Core.Path.{◌≡◌, refl, ◌∙◌}
-use native.Mathlib.Omega.{arith}
+use mathlib.Core.Path.{◌≡◌}
 use Prim.Native.Nat.{◌-◌, ◌≤◌}
 use Rattle.rules_store.specs.Due.{earliest}
-use Rattle.store_words.proofs.laws.Due.{look_idle, look_due}
 use Rattle.store_words.proofs.due.earliest.Given as goal
 
 abbrev pub invariant-loop-el : goal.invariant-loop-el

@@ -1,5 +1,4 @@
 -- `put_due` meets its contract: it comes first, or the next due time stays, or looking finds it.
-use borrow.Author.Rules.{rules}
 use Rattle.store_words.proofs.laws.Due.{first_put, stays_put, look_put}
 use Rattle.store_words.proofs.due.put_due.Goals as goal
 

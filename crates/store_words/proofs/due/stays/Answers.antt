@@ -1,6 +1,4 @@
 -- `stays` meets its contract: nothing was due, another one is the earliest, or one behind is.
-use borrow.Author.Rules.{rules}
-use borrow.Author.Tests.{not-true}
 use mathlib.Core.Path.{sym, ◌∙◌}
 use native.Mathlib.Omega.{arith}
 use Rattle.store_words.proofs.laws.Due.{another_found}

@@ -1,5 +1,4 @@
 -- `actions` meets its contract by that of `less`.
-use borrow.Author.Rules.{rules}
 use Rattle.rules_tables.specs.Ids.{actions}
 use Rattle.store_words.proofs.shape.actions.Goals as goal
 

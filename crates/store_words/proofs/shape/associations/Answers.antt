@@ -1,5 +1,4 @@
 -- `associations` meets its contract by that of `less`.
-use borrow.Author.Rules.{rules}
 use Rattle.rules_tables.specs.Ids.{associations}
 use Rattle.store_words.proofs.shape.associations.Goals as goal
 

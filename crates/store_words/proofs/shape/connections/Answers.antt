@@ -1,5 +1,4 @@
 -- `connections` meets its contract by that of `less`.
-use borrow.Author.Rules.{rules}
 use Rattle.rules_tables.specs.Ids.{connections}
 use Rattle.store_words.proofs.shape.connections.Goals as goal
 

@@ -1,5 +1,4 @@
 -- `inputs` meets its contract by that of `less`.
-use borrow.Author.Rules.{rules}
 use Rattle.rules_tables.specs.Ids.{inputs}
 use Rattle.store_words.proofs.shape.inputs.Goals as goal
 

@@ -1,5 +1,4 @@
 -- `links` meets its contract by that of `less`.
-use borrow.Author.Rules.{rules}
 use Rattle.rules_tables.specs.Ids.{links}
 use Rattle.store_words.proofs.shape.links.Goals as goal
 

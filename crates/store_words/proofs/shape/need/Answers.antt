@@ -1,5 +1,4 @@
 -- `need` meets its contract: the counts are those that the need is made of.
-use borrow.Author.Rules.{rules}
 use Rattle.rules_store.specs.Layout.{need}
 use Rattle.store_words.proofs.shape.need.Goals as goal
 

@@ -1,5 +1,4 @@
 -- `outputs` meets its contract by that of `less`.
-use borrow.Author.Rules.{rules}
 use Rattle.rules_tables.specs.Ids.{outputs}
 use Rattle.store_words.proofs.shape.outputs.Goals as goal
 

@@ -1,5 +1,4 @@
 -- `states` meets its contract by that of `less`.
-use borrow.Author.Rules.{rules}
 use Rattle.rules_tables.specs.Ids.{states}
 use Rattle.store_words.proofs.shape.states.Goals as goal
 

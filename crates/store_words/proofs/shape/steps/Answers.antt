@@ -1,5 +1,4 @@
 -- `steps` meets its contract by that of `less`.
-use borrow.Author.Rules.{rules}
 use Rattle.rules_tables.specs.Ids.{steps}
 use Rattle.store_words.proofs.shape.steps.Goals as goal
 

@@ -1,5 +1,4 @@
 -- `transitions` meets its contract by that of `less`.
-use borrow.Author.Rules.{rules}
 use Rattle.rules_tables.specs.Ids.{transitions}
 use Rattle.store_words.proofs.shape.transitions.Goals as goal
 

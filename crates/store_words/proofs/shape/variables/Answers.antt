@@ -1,5 +1,4 @@
 -- `variables` meets its contract by that of `less`.
-use borrow.Author.Rules.{rules}
 use Rattle.rules_tables.specs.Ids.{variables}
 use Rattle.store_words.proofs.shape.variables.Goals as goal
 

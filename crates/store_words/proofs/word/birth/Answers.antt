@@ -1,5 +1,4 @@
 -- `birth` meets its contract by those of the place and of `word`.
-use borrow.Author.Rules.{rules}
 use Rattle.rules_store.specs.Word.{birth_of}
 use Rattle.store_words.proofs.word.birth.Goals as goal
 

@@ -1,5 +1,4 @@
 -- `birth_in` meets its contract: the words of an event input lie within the need, so the place is in the store.
-use borrow.Author.Rules.{rules}
 use native.Mathlib.Omega.{arith}
 use Rattle.rules_store.specs.Layout.{need, input_at}
 use Rattle.rules_store.specs.Word.{birth_of}

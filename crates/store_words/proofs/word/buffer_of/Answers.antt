@@ -1,5 +1,4 @@
 -- `buffer_of` meets its contract by those of the place and of `word`.
-use borrow.Author.Rules.{rules}
 use Rattle.rules_store.specs.Word.{buffer}
 use Rattle.store_words.proofs.word.buffer_of.Goals as goal
 

@@ -1,5 +1,4 @@
 -- `chart_state` meets its contract by those of the place and of `word`.
-use borrow.Author.Rules.{rules}
 use Rattle.rules_store.specs.Word.{chart_state}
 use Rattle.store_words.proofs.word.chart_state.Goals as goal
 

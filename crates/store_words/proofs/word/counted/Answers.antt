@@ -1,5 +1,4 @@
 -- `counted` meets its contract by cases: not to be counted, below the end, at the end.
-use borrow.Author.Rules.{rules}
 use Rattle.rules_store.specs.Word.{counted}
 use borrow.Author.Tests.{lt-ltb, le-ltb, ne_eqb}
 use Rattle.store_words.proofs.word.counted.Goals as goal

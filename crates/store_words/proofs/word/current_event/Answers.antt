@@ -1,5 +1,4 @@
 -- `current_event` meets its contract by that of `word`.
-use borrow.Author.Rules.{rules}
 use Rattle.rules_store.specs.Word.{current_event}
 use Rattle.store_words.proofs.word.current_event.Goals as goal
 

@@ -1,5 +1,4 @@
 -- `due_flag` meets its contract by those of the place and of `word`.
-use borrow.Author.Rules.{rules}
 use Rattle.rules_store.specs.Word.{due_flag}
 use Rattle.store_words.proofs.word.due_flag.Goals as goal
 

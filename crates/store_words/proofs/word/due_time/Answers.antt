@@ -1,5 +1,4 @@
 -- `due_time` meets its contract by those of the place and of `word`.
-use borrow.Author.Rules.{rules}
 use Rattle.rules_store.specs.Word.{due_time}
 use Rattle.store_words.proofs.word.due_time.Goals as goal
 

@@ -1,5 +1,4 @@
 -- `last_update` meets its contract by those of the place and of `word`.
-use borrow.Author.Rules.{rules}
 use Rattle.rules_store.specs.Word.{last_update}
 use Rattle.store_words.proofs.word.last_update.Goals as goal
 

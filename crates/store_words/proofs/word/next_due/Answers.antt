@@ -1,5 +1,4 @@
 -- `next_due` meets its contract: two words.
-use borrow.Author.Rules.{rules}
 use Rattle.rules_store.specs.Word.{next_due}
 use Rattle.store_words.proofs.word.next_due.Goals as goal
 

@@ -1,5 +1,4 @@
 -- `overwritten_count` meets its contract by that of `word`.
-use borrow.Author.Rules.{rules}
 use Rattle.rules_store.specs.Word.{overwritten}
 use Rattle.store_words.proofs.word.overwritten_count.Goals as goal
 

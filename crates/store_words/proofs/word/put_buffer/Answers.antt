@@ -1,5 +1,4 @@
 -- `put_buffer` meets its contract by those of the place and of `put`.
-use borrow.Author.Rules.{rules}
 use Rattle.rules_store.specs.Word.{put_buffer}
 use Rattle.store_words.proofs.word.put_buffer.Goals as goal
 

@@ -1,5 +1,4 @@
 -- `put_chart_state` meets its contract by those of the place and of `put`.
-use borrow.Author.Rules.{rules}
 use Rattle.rules_store.specs.Word.{put_chart_state}
 use Rattle.store_words.proofs.word.put_chart_state.Goals as goal
 

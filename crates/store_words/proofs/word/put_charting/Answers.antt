@@ -1,5 +1,4 @@
 -- `put_charting` meets its contract: the other words stay as they are (`only_mode`).
-use borrow.Author.Rules.{rules}
 use Rattle.store_words.proofs.laws.Running.{only_mode}
 use Rattle.store_words.proofs.word.put_charting.Goals as goal
 

@@ -1,5 +1,4 @@
 -- `put_entered` meets its contract: the birth stays as it is (`all_but_birth`).
-use borrow.Author.Rules.{rules}
 use Rattle.store_words.proofs.laws.Running.{all_but_birth}
 use Rattle.store_words.proofs.word.put_entered.Goals as goal
 

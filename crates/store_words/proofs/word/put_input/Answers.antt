@@ -1,5 +1,4 @@
 -- `put_input` meets its contract: three writes, one after the other.
-use borrow.Author.Rules.{rules}
 use Rattle.rules_store.specs.Word.{put_input}
 use Rattle.store_words.proofs.word.put_input.Goals as goal
 

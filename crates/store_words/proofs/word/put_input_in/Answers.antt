@@ -1,5 +1,4 @@
 -- `put_input_in` meets its contract: the words of an event input lie within the need, so the places are in the store.
-use borrow.Author.Rules.{rules}
 use native.Mathlib.Omega.{arith}
 use lib.ListN.{length-set}
 use Rattle.rules_store.specs.Layout.{need, input_at}

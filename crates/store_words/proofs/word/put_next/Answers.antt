@@ -1,5 +1,4 @@
 -- `put_next` meets its contract: two writes, one after the other.
-use borrow.Author.Rules.{rules}
 use Rattle.rules_store.specs.Word.{put_next}
 use Rattle.store_words.proofs.word.put_next.Goals as goal
 

@@ -1,5 +1,4 @@
 -- `put_overwritten` meets its contract by that of `put`.
-use borrow.Author.Rules.{rules}
 use Rattle.rules_store.specs.Word.{put_overwritten}
 use Rattle.store_words.proofs.word.put_overwritten.Goals as goal
 

@@ -1,5 +1,4 @@
 -- `put_owner` meets its contract: two writes, one after the other.
-use borrow.Author.Rules.{rules}
 use Rattle.rules_store.specs.Word.{put_owner}
 use Rattle.store_words.proofs.word.put_owner.Goals as goal
 

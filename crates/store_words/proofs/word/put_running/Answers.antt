@@ -1,5 +1,4 @@
 -- `put_running` meets its contract: five writes, one after the other.
-use borrow.Author.Rules.{rules}
 use Rattle.rules_store.specs.Word.{put_running}
 use Rattle.store_words.proofs.word.put_running.Goals as goal
 

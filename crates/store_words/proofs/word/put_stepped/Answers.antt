@@ -1,5 +1,4 @@
 -- `put_stepped` meets its contract: the other words stay as they are (`only_step`).
-use borrow.Author.Rules.{rules}
 use Rattle.store_words.proofs.laws.Running.{only_step}
 use Rattle.store_words.proofs.word.put_stepped.Goals as goal
 

@@ -1,5 +1,4 @@
 -- `put_time` meets its contract by that of `put`.
-use borrow.Author.Rules.{rules}
 use Rattle.rules_store.specs.Word.{put_now}
 use Rattle.store_words.proofs.word.put_time.Goals as goal
 

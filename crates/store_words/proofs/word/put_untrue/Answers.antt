@@ -1,5 +1,4 @@
 -- `put_untrue` meets its contract by that of `put`.
-use borrow.Author.Rules.{rules}
 use Rattle.rules_store.specs.Word.{put_untrue}
 use Rattle.store_words.proofs.word.put_untrue.Goals as goal
 

@@ -1,5 +1,4 @@
 -- `put_value` meets its contract by those of the place and of `put`.
-use borrow.Author.Rules.{rules}
 use Rattle.rules_store.specs.Word.{put_value}
 use Rattle.store_words.proofs.word.put_value.Goals as goal
 

@@ -1,5 +1,4 @@
 -- `running` meets its contract: five words read.
-use borrow.Author.Rules.{rules}
 use Rattle.rules_store.specs.Word.{running_of}
 use Rattle.store_words.proofs.word.running.Goals as goal
 

@@ -1,5 +1,4 @@
 -- `running_element` meets its contract by that of `word`.
-use borrow.Author.Rules.{rules}
 use Rattle.rules_store.specs.Word.{running_element}
 use Rattle.store_words.proofs.word.running_element.Goals as goal
 

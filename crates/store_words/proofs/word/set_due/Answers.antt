@@ -1,5 +1,4 @@
 -- `set_due` meets its contract: two writes, one after the other.
-use borrow.Author.Rules.{rules}
 use Rattle.rules_store.specs.Word.{set_due}
 use Rattle.store_words.proofs.word.set_due.Goals as goal
 

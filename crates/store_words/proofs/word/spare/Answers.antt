@@ -1,5 +1,4 @@
 -- `spare` meets its contract by that of `word`.
-use borrow.Author.Rules.{rules}
 use Rattle.rules_store.specs.Word.{spare_word}
 use Rattle.store_words.proofs.word.spare.Goals as goal
 

@@ -1,5 +1,4 @@
 -- `spare_at` meets its contract by its one sum.
-use borrow.Author.Rules.{rules}
 use mathlib.Core.Path.{refl}
 use Rattle.rules_store.specs.Word.{spare_at}
 use Rattle.store_words.proofs.word.spare_at.Goals as goal

@@ -1,5 +1,4 @@
 -- `time` meets its contract by that of `word`.
-use borrow.Author.Rules.{rules}
 use Rattle.rules_store.specs.Word.{now_of}
 use Rattle.store_words.proofs.word.time.Goals as goal
 

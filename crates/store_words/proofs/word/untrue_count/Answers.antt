@@ -1,5 +1,4 @@
 -- `untrue_count` meets its contract by that of `word`.
-use borrow.Author.Rules.{rules}
 use Rattle.rules_store.specs.Word.{untrue}
 use Rattle.store_words.proofs.word.untrue_count.Goals as goal
 

@@ -1,5 +1,4 @@
 -- `value_in` meets its contract: the words of a variable lie within the need, so the place is in the store.
-use borrow.Author.Rules.{rules}
 use native.Mathlib.Omega.{arith}
 use Rattle.rules_store.specs.Layout.{need, variable_at}
 use Rattle.rules_store.specs.Word.{value}

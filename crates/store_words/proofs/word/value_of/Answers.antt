@@ -1,5 +1,4 @@
 -- `value_of` meets its contract by those of the place and of `word`.
-use borrow.Author.Rules.{rules}
 use Rattle.rules_store.specs.Word.{value}
 use Rattle.store_words.proofs.word.value_of.Goals as goal
 

@@ -1,5 +1,4 @@
 -- `variable_at` meets its contract by definition.
-use borrow.Author.Rules.{rules}
 use Rattle.rules_store.specs.Layout.{variable_at}
 use native.Mathlib.Omega.{arith}
 use Rattle.store_words.proofs.word.variable_at.Goals as goal

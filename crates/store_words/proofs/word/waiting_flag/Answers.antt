@@ -1,5 +1,4 @@
 -- `waiting_flag` meets its contract by those of the place and of `word`.
-use borrow.Author.Rules.{rules}
 use Rattle.rules_store.specs.Word.{waiting}
 use Rattle.store_words.proofs.word.waiting_flag.Goals as goal
 

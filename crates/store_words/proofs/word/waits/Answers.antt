@@ -1,5 +1,4 @@
 -- `waits` meets its contract: the words of an event input lie within the need, so the place is in the store.
-use borrow.Author.Rules.{rules}
 use Rattle.rules_store.specs.Layout.{need, input_at}
 use Rattle.rules_store.specs.Word.{waiting}
 use native.Mathlib.Omega.{arith}

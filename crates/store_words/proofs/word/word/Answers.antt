@@ -1,5 +1,4 @@
 -- `word` meets its contract: past the end a list reads its default.
-use borrow.Author.Rules.{rules}
 use lib.ListN.{get_or-eq_default}
 use mathlib.Core.Path.{sym}
 use Rattle.store_words.proofs.word.word.Goals as goal

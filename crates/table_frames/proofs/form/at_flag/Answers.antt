@@ -1,5 +1,4 @@
 -- `at_flag` meets its contract: the entry at the flag, or the last.
-use borrow.Author.Rules.{rules}
 use borrow.Author.Tests.{lt-ltb, le-ltb}
 use Rattle.table_frames.proofs.form.at_flag.Goals as goal
 

@@ -1,5 +1,4 @@
 -- `body_ok` meets its contract: flag, step count and unused fields, tested in the order of `body_ok`.
-use borrow.Author.Rules.{rules}
 use Rattle.rules_tables.specs.Form.{used_of, body_ok}
 use borrow.Author.Tests.{le-leb, lt-leb}
 use Rattle.table_frames.proofs.form.body_ok.Goals as goal

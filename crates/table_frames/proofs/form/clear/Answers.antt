@@ -1,13 +1,10 @@
 -- `clear` meets its contract. The invariant: the fields passed, and those before them, are used or zero.
 use borrow.Author.Rules.{rules}
-use Rattle.rules_walks.specs.All.{all_to}
 use Rattle.rules_walks.proofs.laws.All.{all_intro, all_more, all_stop, all_less}
 use Rattle.rules_tables.specs.Form.{clear_at}
 use borrow.Author.Tests.{lt-ltb, le-ltb, eq-eqb, ne_eqb}
-use mathlib.Core.Bool.{true}
-use mathlib.Core.Path.{◌≡◌, sym, ◌∙◌}
+use mathlib.Core.Path.{sym, ◌∙◌}
 use native.Mathlib.Omega.{arith}
-use Prim.Native.Nat.{◌≤◌, ◌-◌}
 use Rattle.table_frames.proofs.form.clear.Goals as goal
 
 pub loop-j-init : goal.loop-j-init

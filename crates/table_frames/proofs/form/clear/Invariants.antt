@@ -1,11 +1,7 @@
-use borrow.Author.Rules.{rules}
 use Rattle.rules_walks.specs.All.{all_to}
-use Rattle.rules_walks.proofs.laws.All.{all_intro, all_more, all_stop, all_less}
 use Rattle.rules_tables.specs.Form.{clear_at}
-use borrow.Author.Tests.{lt-ltb, le-ltb, eq-eqb, ne_eqb}
 use mathlib.Core.Bool.{true}
-use mathlib.Core.Path.{◌≡◌, sym, ◌∙◌}
-use native.Mathlib.Omega.{arith}
+use mathlib.Core.Path.{◌≡◌}
 use Prim.Native.Nat.{◌≤◌, ◌-◌}
 use Rattle.table_frames.proofs.form.clear.Given as goal
 

@@ -1,8 +1,4 @@
-use borrow.Author.Rules.{rules}
 use Rattle.table_frames.specs.Walked.{Walked}
-use Rattle.table_frames.proofs.laws.Walked.{walked_none, walked_more, walked_held, walked_starts, walked_last}
-use mathlib.Core.Path.{◌≡◌}
-use native.Mathlib.Omega.{arith}
 use Prim.Native.Nat.{◌≤◌, ◌-◌}
 use Rattle.table_frames.proofs.form.formed_starts.Given as goal
 

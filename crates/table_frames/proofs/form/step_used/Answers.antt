@@ -1,5 +1,4 @@
 -- `step_used` meets its contract: the list is that of the form.
-use borrow.Author.Rules.{rules}
 use Rattle.rules_tables.specs.Form.{used_of}
 use Rattle.table_frames.proofs.form.step_used.Goals as goal
 

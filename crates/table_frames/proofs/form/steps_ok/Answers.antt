@@ -1,5 +1,4 @@
 -- `steps_ok` meets its contract: only an action's step count is looked at.
-use borrow.Author.Rules.{rules}
 use Rattle.rules_tables.specs.Form.{steps_ok}
 use borrow.Author.Tests.{ne_eqb}
 use Rattle.table_frames.proofs.form.steps_ok.Goals as goal

@@ -1,5 +1,4 @@
 -- `transition_used` meets its contract: the list is that of the form.
-use borrow.Author.Rules.{rules}
 use Rattle.rules_tables.specs.Form.{used_of}
 use Rattle.table_frames.proofs.form.transition_used.Goals as goal
 

@@ -1,5 +1,4 @@
 -- `field` reads the 16-bit number that `field_at` names.
-use borrow.Author.Rules.{rules}
 use Rattle.rules_tables.specs.Frame.{field_at}
 use Rattle.table_frames.proofs.frame.field.Goals as goal
 

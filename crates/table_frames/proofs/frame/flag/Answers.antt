@@ -1,5 +1,4 @@
 -- `flag` reads the byte that `flag_at` names.
-use borrow.Author.Rules.{rules}
 use Rattle.rules_tables.specs.Frame.{flag_at}
 use Rattle.table_frames.proofs.frame.flag.Goals as goal
 

@@ -1,5 +1,4 @@
 -- `kind` reads the byte that `kind_at` names.
-use borrow.Author.Rules.{rules}
 use Rattle.rules_tables.specs.Frame.{kind_at}
 use Rattle.table_frames.proofs.frame.kind.Goals as goal
 

@@ -1,5 +1,4 @@
 -- `count` meets its contract: the frames up to a kind are those below it and those of it (`below_next`).
-use borrow.Author.Rules.{rules}
 use Rattle.rules_tables.proofs.laws.Places.{below_next}
 use Rattle.rules_tables.specs.Frame.{frames_of}
 use native.Mathlib.Omega.{arith}

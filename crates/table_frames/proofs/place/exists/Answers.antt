@@ -1,5 +1,4 @@
 -- `exists` meets its contract by that of `count`.
-use borrow.Author.Rules.{rules}
 use Rattle.table_frames.proofs.place.exists.Goals as goal
 
 pub returns : goal.returns

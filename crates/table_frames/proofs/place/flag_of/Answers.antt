@@ -1,5 +1,4 @@
 -- `flag_of` meets its contract by those of `place` and `flag`.
-use borrow.Author.Rules.{rules}
 use Rattle.table_frames.proofs.place.flag_of.Goals as goal
 
 pub returns : goal.returns

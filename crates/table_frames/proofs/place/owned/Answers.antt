@@ -1,5 +1,4 @@
 -- `owned` meets its contract: existence first, then the owner.
-use borrow.Author.Rules.{rules}
 use Rattle.rules_tables.specs.Place.{owned_by}
 use borrow.Author.Tests.{ltb-true}
 use mathlib.Core.Path.{sym, ◌∙◌}

@@ -1,5 +1,4 @@
 -- `owner` meets its contract by those of `place` and `field`.
-use borrow.Author.Rules.{rules}
 use Rattle.table_frames.proofs.place.owner.Goals as goal
 
 pub returns : goal.returns

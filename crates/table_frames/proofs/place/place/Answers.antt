@@ -1,5 +1,4 @@
 -- `place` meets its contract: in order the kind's start and the id beyond it (`place_start`), else what was put there (`placed_at`).
-use borrow.Author.Rules.{rules}
 use Rattle.rules_tables.specs.Place.{place}
 use Rattle.rules_tables.proofs.laws.Places.{place_start, place_found}
 use Rattle.table_frames.proofs.laws.Placed.{id_in, placed_at}

@@ -1,11 +1,10 @@
 -- `put_places` meets its contract. The invariant: the frames passed stand where they belong, and `next` tells where the next of each kind belongs.
 use borrow.Author.Rules.{rules}
-use Rattle.table_frames.specs.Placed.{Placed, Nexts}
 use Rattle.table_frames.proofs.laws.Placed.{slot_in, placed_none, placed_hit, placed_miss, nexts_none, nexts_hit, nexts_miss}
 use lib.ListN.{length, length-set}
 use mathlib.Core.Path.{◌≡◌, refl, sym}
 use native.Mathlib.Omega.{arith}
-use Prim.Native.Nat.{◌≤◌, ◌-◌, ◌/◌}
+use Prim.Native.Nat.{◌/◌}
 use Rattle.table_frames.proofs.place.put_places.Goals as goal
 use Rattle.table_frames.proofs.place.put_places.Goals.{then-k-lt12, else-k-lt12}
 

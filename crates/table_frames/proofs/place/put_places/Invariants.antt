@@ -1,10 +1,6 @@
-use borrow.Author.Rules.{rules}
 use Rattle.table_frames.specs.Placed.{Placed, Nexts}
-use Rattle.table_frames.proofs.laws.Placed.{slot_in, placed_none, placed_hit, placed_miss, nexts_none, nexts_hit, nexts_miss}
-use lib.ListN.{length, length-set}
-use mathlib.Core.Logic.{⊎_elim}
-use mathlib.Core.Path.{◌≡◌, refl, sym}
-use native.Mathlib.Omega.{arith}
+use lib.ListN.{length}
+use mathlib.Core.Path.{◌≡◌}
 use Prim.Native.Nat.{◌≤◌, ◌-◌, ◌/◌}
 use Rattle.table_frames.proofs.place.put_places.Given as goal
 

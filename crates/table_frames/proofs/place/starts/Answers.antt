@@ -1,12 +1,11 @@
 -- `starts` meets its contract. The invariant: the entries up to k are the starts (`next_start`).
 use Rattle.rules_tables.proofs.laws.Places.{below_next, below_none, below_le, next_start}
 use Rattle.rules_tables.specs.Frame.{frames_of}
-use Rattle.rules_tables.specs.Place.{start_of}
 use borrow.Author.Rules.{rules}
-use lib.ListN.{length, get_or, length-set}
+use lib.ListN.{length-set}
 use mathlib.Core.Path.{◌≡◌, refl, sym}
 use native.Mathlib.Omega.{arith}
-use Prim.Native.Nat.{ℕ, ◌≤◌, ◌-◌, ◌+◌}
+use Prim.Native.Nat.{◌+◌}
 use Rattle.table_frames.proofs.place.starts.Goals as goal
 
 pub loop-k-init : goal.loop-k-init

@@ -1,11 +1,7 @@
-use Rattle.rules_tables.proofs.laws.Places.{below_next, below_none, below_le, next_start}
-use Rattle.rules_tables.specs.Frame.{frames_of}
 use Rattle.rules_tables.specs.Place.{start_of}
-use borrow.Author.Rules.{rules}
-use lib.ListN.{length, get_or, length-set}
-use mathlib.Core.Path.{◌≡◌, refl, sym}
-use native.Mathlib.Omega.{arith}
-use Prim.Native.Nat.{ℕ, ◌≤◌, ◌-◌, ◌+◌}
+use lib.ListN.{length, get_or}
+use mathlib.Core.Path.{◌≡◌}
+use Prim.Native.Nat.{ℕ, ◌≤◌, ◌-◌}
 use Rattle.table_frames.proofs.place.starts.Given as goal
 
 abbrev pub invariant-loop-k : goal.invariant-loop-k

@@ -1,12 +1,10 @@
 -- `counts` meets its contract. The invariant: the frames passed are tallied by their kind.
-use Rattle.rules_walks.specs.Tally.{Tallied}
 use Rattle.rules_walks.proofs.laws.Tally.{tallied_none, tallied_more, tallied_small}
-use Rattle.rules_tables.specs.Frame.{kind_at}
 use borrow.Author.Rules.{rules}
 use lib.ListN.{length}
 use mathlib.Core.Path.{◌≡◌}
 use native.Mathlib.Omega.{arith}
-use Prim.Native.Nat.{◌≤◌, ◌-◌, ◌/◌}
+use Prim.Native.Nat.{◌/◌}
 use Rattle.table_frames.proofs.tally.counts.Goals as goal
 
 pub loop-f-init : goal.loop-f-init

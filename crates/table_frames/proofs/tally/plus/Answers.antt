@@ -1,5 +1,4 @@
 -- `plus` meets its contract: one entry goes up, if there is one.
-use borrow.Author.Rules.{rules}
 use Rattle.rules_walks.specs.Tally.{plus_at}
 use borrow.Author.Tests.{lt-ltb, le-ltb}
 use Rattle.table_frames.proofs.tally.plus.Goals as goal

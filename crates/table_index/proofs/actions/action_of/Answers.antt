@@ -1,12 +1,8 @@
 -- `action_of` meets its contract. The invariant: j is where the search for the action with m of the state's actions before it leads.
-use mathlib.Core.Path.{◌≡◌, refl}
-use Prim.Native.Nat.{◌-◌, ◌≤◌}
+use mathlib.Core.Path.{refl}
 use native.Mathlib.Omega.{arith}
 use borrow.Author.Rules.{rules}
-use Rattle.rules_tables.specs.Ids.{first_action, actions}
-use Rattle.rules_tables.specs.Owned.{any, nth}
 use Rattle.rules_tables.specs.Actions.{action_of}
-use Rattle.table_index.specs.Leads.{or_end}
 use Rattle.table_index.proofs.laws.Nth.{nth_first}
 use Rattle.table_index.proofs.laws.Actions.{action_more, action_past, action_at}
 use Rattle.table_index.proofs.actions.action_of.Goals as goal

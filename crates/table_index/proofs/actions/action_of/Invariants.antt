@@ -1,13 +1,8 @@
-use mathlib.Core.Path.{◌≡◌, refl}
+use mathlib.Core.Path.{◌≡◌}
 use Prim.Native.Nat.{◌-◌, ◌≤◌}
-use native.Mathlib.Omega.{arith}
-use borrow.Author.Rules.{rules}
 use Rattle.rules_tables.specs.Ids.{first_action, actions}
 use Rattle.rules_tables.specs.Owned.{any, nth}
-use Rattle.rules_tables.specs.Actions.{action_of}
 use Rattle.table_index.specs.Leads.{or_end}
-use Rattle.table_index.proofs.laws.Nth.{nth_first}
-use Rattle.table_index.proofs.laws.Actions.{action_more, action_past, action_at}
 use Rattle.table_index.proofs.actions.action_of.Given as goal
 
 abbrev pub invariant-loop-j : goal.invariant-loop-j

@@ -1,21 +1,8 @@
--- src/chain.rt:55:28
--- src/chain.rt:55:5
--- src/chain.rt:57:5
--- src/chain.rt:58:9
--- src/chain.rt:59:9
--- src/chain.rt:57:5
--- src/chain.rt:57:5
--- src/chain.rt:43:1
--- src/chain.rt:43:1
 use borrow.Author.Rules.{rules}
-use Prim.Native.Nat.{◌≤◌, ◌-◌, ◌+◌}
+use Prim.Native.Nat.{◌-◌, ◌+◌}
 use mathlib.Core.Path.{◌≡◌}
 use native.Mathlib.Omega.{arith}
 use Rattle.table_index.proofs.laws.Chain.{chained_none, chained_link, apart_none, apart_linked, apart_filled}
-use Rattle.table_index.specs.Chain.{owner_at, Chained, Apart}
-use Rattle.table_index.proofs.chain.chain.Reads as reads
-use Rattle.table_index.proofs.chain.fill.Reads as fill_reads
-use Rattle.table_index.proofs.chain.link.Reads as link_reads
 use Rattle.table_index.proofs.chain.chain.Goals as goal
 
 pub loop-j-init : goal.loop-j-init

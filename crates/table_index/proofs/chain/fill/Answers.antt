@@ -1,19 +1,7 @@
--- src/chain.rt:16:5
--- src/chain.rt:17:12
--- src/chain.rt:17:9
--- src/chain.rt:17:9
--- src/chain.rt:18:9
--- src/chain.rt:16:5
--- src/chain.rt:16:5
--- src/chain.rt:11:1
--- src/chain.rt:11:1
 use borrow.Author.Rules.{rules}
 use mathlib.Core.Path.{◌≡◌}
 use native.Mathlib.Omega.{arith}
-use Prim.Native.Nat.{◌≤◌, ◌-◌}
 use Rattle.table_index.proofs.laws.Chain.{filled_none, filled_more}
-use Rattle.table_index.specs.Chain.{Filled}
-use Rattle.table_index.proofs.chain.fill.Reads as reads
 use Rattle.table_index.proofs.chain.fill.Goals as goal
 
 pub loop-i-init : goal.loop-i-init

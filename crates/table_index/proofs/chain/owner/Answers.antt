@@ -1,18 +1,8 @@
--- src/chain.rt:27:13
--- src/chain.rt:28:9
--- src/chain.rt:28:5
--- src/chain.rt:28:22
--- src/chain.rt:28:5
--- src/chain.rt:23:1
 use Rattle.table_index.specs.Chain.{owner_at}
 use Prim.Native.Nat.{◌≤◌}
 use native.Mathlib.Omega.{arith}
 use native.Mathlib.Nat.{mul-le-mul_right}
-use borrow.Author.Rules.{rules, scaled_Fits}
-use borrow.Author.Rules.{rules}
-use Rattle.table_index.proofs.chain.owner.Reads as reads
-use Rattle.table_frames.proofs.frame.field.Reads as field_reads
-use Rattle.table_frames.proofs.frame.flag.Reads as flag_reads
+use borrow.Author.Rules.{scaled_Fits}
 use Rattle.table_index.proofs.chain.owner.Goals as goal
 
 pub overflow_mul-result : goal.overflow_mul-result

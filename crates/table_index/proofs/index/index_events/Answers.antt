@@ -1,19 +1,5 @@
--- src/index.rt:51:9
--- src/index.rt:47:5
--- src/index.rt:60:9
--- src/index.rt:56:5
--- src/index.rt:69:9
--- src/index.rt:65:5
--- src/index.rt:43:1
--- src/index.rt:43:1
 use mathlib.Core.Path.{◌∙◌}
 use Rattle.table_index.proofs.laws.Making.{ask_associations, ask_connections, ask_links, events_done}
-use borrow.Author.Rules.{rules}
-use Rattle.table_index.proofs.index.index_events.Reads as reads
-use Rattle.store_words.proofs.shape.associations.Reads as associations_reads
-use Rattle.store_words.proofs.shape.connections.Reads as connections_reads
-use Rattle.store_words.proofs.shape.links.Reads as links_reads
-use Rattle.table_index.proofs.chain.chain.Reads as chain_reads
 use Rattle.table_index.proofs.index.index_events.Goals as goal
 
 pub chain-requires : goal.chain-requires

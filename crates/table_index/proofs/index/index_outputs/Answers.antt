@@ -1,18 +1,6 @@
--- src/index.rt:106:9
--- src/index.rt:107:5
--- src/index.rt:112:9
--- src/index.rt:108:5
--- src/index.rt:102:1
--- src/index.rt:102:1
 use mathlib.Core.Path.{◌∙◌}
 use Rattle.table_index.proofs.laws.Partnering.{ask_output_pairs, outputs_done}
 use Rattle.table_index.proofs.laws.Making.{ask_outputs}
-use borrow.Author.Rules.{rules}
-use Rattle.table_index.proofs.index.index_outputs.Reads as reads
-use Rattle.store_words.proofs.shape.inputs.Reads as inputs_reads
-use Rattle.store_words.proofs.shape.outputs.Reads as outputs_reads
-use Rattle.table_index.proofs.chain.chain.Reads as chain_reads
-use Rattle.table_index.proofs.pair.pair.Reads as Pair-reads
 use Rattle.table_index.proofs.index.index_outputs.Goals as goal
 
 pub chain-requires : goal.chain-requires

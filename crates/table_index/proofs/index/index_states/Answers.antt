@@ -1,16 +1,5 @@
--- src/index.rt:85:9
--- src/index.rt:81:5
--- src/index.rt:94:9
--- src/index.rt:90:5
--- src/index.rt:77:1
--- src/index.rt:77:1
 use mathlib.Core.Path.{◌∙◌}
 use Rattle.table_index.proofs.laws.Making.{ask_transitions, ask_actions, states_done}
-use borrow.Author.Rules.{rules}
-use Rattle.table_index.proofs.index.index_states.Reads as reads
-use Rattle.store_words.proofs.shape.actions.Reads as actions_reads
-use Rattle.store_words.proofs.shape.transitions.Reads as transitions_reads
-use Rattle.table_index.proofs.chain.chain.Reads as chain_reads
 use Rattle.table_index.proofs.index.index_states.Goals as goal
 
 pub chain-requires : goal.chain-requires

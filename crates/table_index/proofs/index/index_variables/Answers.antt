@@ -1,17 +1,6 @@
--- src/index.rt:127:9
--- src/index.rt:128:5
--- src/index.rt:138:9
--- src/index.rt:129:5
--- src/index.rt:123:1
--- src/index.rt:123:1
 use mathlib.Core.Path.{◌∙◌}
 use Rattle.table_index.proofs.laws.Partnering.{ask_variable_pairs, variables_done}
 use Rattle.table_index.proofs.laws.Making.{ask_variables}
-use borrow.Author.Rules.{rules}
-use Rattle.table_index.proofs.index.index_variables.Reads as reads
-use Rattle.store_words.proofs.shape.variables.Reads as variables_reads
-use Rattle.table_index.proofs.chain.chain.Reads as chain_reads
-use Rattle.table_index.proofs.pair.pair.Reads as Pair-reads
 use Rattle.table_index.proofs.index.index_variables.Goals as goal
 
 pub chain-requires : goal.chain-requires

@@ -1,20 +1,8 @@
--- src/pair.rt:63:5
--- src/pair.rt:64:9
--- src/pair.rt:65:9
--- src/pair.rt:63:5
--- src/pair.rt:63:5
--- src/pair.rt:47:1
--- src/pair.rt:47:1
-use Prim.Native.Nat.{◌≤◌, ◌+◌, ◌-◌}
 use borrow.Author.Rules.{rules}
 use mathlib.Core.Path.{◌≡◌, refl}
 use native.Mathlib.Omega.{arith}
 use Rattle.table_index.proofs.laws.Pair.{pairing_more, apart_paired}
 use Rattle.table_index.proofs.laws.Chain.{apart_none}
-use Rattle.table_index.specs.Chain.{Apart}
-use Rattle.table_index.specs.Pair.{Pairing}
-use Rattle.table_index.proofs.pair.pair.Reads as reads
-use Rattle.table_index.proofs.pair.pair_one.Reads as pair_one_reads
 use Rattle.table_index.proofs.pair.pair.Goals as goal
 
 pub loop-i-init : goal.loop-i-init

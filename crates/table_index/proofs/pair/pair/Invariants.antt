@@ -1,13 +1,6 @@
 use Prim.Native.Nat.{◌≤◌, ◌+◌, ◌-◌}
-use borrow.Author.Rules.{rules}
-use mathlib.Core.Path.{◌≡◌, refl}
-use native.Mathlib.Omega.{arith}
-use Rattle.table_index.proofs.laws.Pair.{pairing_more, apart_paired}
-use Rattle.table_index.proofs.laws.Chain.{apart_none}
 use Rattle.table_index.specs.Chain.{Apart}
 use Rattle.table_index.specs.Pair.{Pairing}
-use Rattle.table_index.proofs.pair.pair.Reads as reads
-use Rattle.table_index.proofs.pair.pair_one.Reads as pair_one_reads
 use Rattle.table_index.proofs.pair.pair.Given as goal
 
 abbrev pub invariant-loop-i : goal.invariant-loop-i

@@ -1,28 +1,8 @@
--- src/pair.rt:38:23
--- src/pair.rt:38:9
--- src/pair.rt:39:19
--- src/pair.rt:39:16
--- src/pair.rt:39:16
--- src/pair.rt:40:8
--- src/pair.rt:40:5
--- src/pair.rt:40:5
--- src/pair.rt:41:8
--- src/pair.rt:42:31
--- src/pair.rt:42:9
--- src/pair.rt:24:1
--- src/pair.rt:24:1
--- src/pair.rt:24:1
--- src/pair.rt:24:1
 use native.Mathlib.Omega.{arith}
 use lib.ListN.{length, get_or, length-set}
 use Prim.Native.Nat.{◌+◌}
 use Rattle.table_index.proofs.laws.Pair.{noted_long, paired_on, paired_off}
 use mathlib.Core.Path.{refl, ap, ◌∙◌}
-use borrow.Author.Rules.{rules}
-use Rattle.table_index.proofs.pair.pair_one.Reads as reads
-use Rattle.table_frames.proofs.frame.field.Reads as field_reads
-use Rattle.table_index.proofs.pair.advance.Reads as advance_reads
-use Rattle.table_parts.proofs.belongs.Reads as belongs_reads
 use Rattle.table_index.proofs.pair.pair_one.Goals as goal
 
 pub advance-requires : goal.advance-requires

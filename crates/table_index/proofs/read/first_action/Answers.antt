@@ -1,13 +1,4 @@
--- src/read.rt:61:19
--- src/read.rt:61:9
--- src/read.rt:63:9
--- src/read.rt:56:1
--- src/read.rt:56:1
 use Rattle.table_index.proofs.laws.Owned.{first_any, first_beyond}
-use borrow.Author.Rules.{rules}
-use Rattle.table_index.proofs.read.first_action.Reads as reads
-use Rattle.store_words.proofs.shape.actions.Reads as actions_reads
-use Rattle.table_index.proofs.read.entry.Reads as entry_reads
 use Rattle.table_index.proofs.read.first_action.Goals as goal
 
 pub returns-then-q-lt512 : goal.returns-then-q-lt512

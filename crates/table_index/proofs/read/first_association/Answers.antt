@@ -1,18 +1,5 @@
--- src/read.rt:121:9
--- src/read.rt:121:9
--- src/read.rt:124:40
--- src/read.rt:124:40
--- src/read.rt:124:19
--- src/read.rt:124:9
--- src/read.rt:126:9
--- src/read.rt:116:1
--- src/read.rt:116:1
 use native.Mathlib.Omega.{arith}
 use Rattle.table_index.proofs.laws.Entries.{first_event, first_far, first_other}
-use borrow.Author.Rules.{rules}
-use Rattle.table_index.proofs.read.first_association.Reads as reads
-use Rattle.store_words.proofs.shape.associations.Reads as associations_reads
-use Rattle.table_index.proofs.read.entry.Reads as entry_reads
 use Rattle.table_index.proofs.read.first_association.Goals as goal
 
 pub returns-then-g-gt1 : goal.returns-then-g-gt1

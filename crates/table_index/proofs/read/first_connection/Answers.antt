@@ -1,13 +1,4 @@
--- src/read.rt:81:19
--- src/read.rt:81:9
--- src/read.rt:83:9
--- src/read.rt:76:1
--- src/read.rt:76:1
 use Rattle.table_index.proofs.laws.Owned.{first_any, first_beyond}
-use borrow.Author.Rules.{rules}
-use Rattle.table_index.proofs.read.first_connection.Reads as reads
-use Rattle.store_words.proofs.shape.connections.Reads as connections_reads
-use Rattle.table_index.proofs.read.entry.Reads as entry_reads
 use Rattle.table_index.proofs.read.first_connection.Goals as goal
 
 pub returns-then-o-lt256 : goal.returns-then-o-lt256

@@ -1,14 +1,5 @@
--- src/read.rt:101:19
--- src/read.rt:101:9
--- src/read.rt:103:9
--- src/read.rt:96:1
--- src/read.rt:96:1
 use native.Mathlib.Omega.{arith}
 use Rattle.table_index.proofs.laws.Owned.{first_any, first_beyond}
-use borrow.Author.Rules.{rules}
-use Rattle.table_index.proofs.read.first_link.Reads as reads
-use Rattle.store_words.proofs.shape.links.Reads as links_reads
-use Rattle.table_index.proofs.read.entry.Reads as entry_reads
 use Rattle.table_index.proofs.read.first_link.Goals as goal
 
 pub returns-then-v-lt512 : goal.returns-then-v-lt512

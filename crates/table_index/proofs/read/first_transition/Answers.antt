@@ -1,13 +1,4 @@
--- src/read.rt:41:19
--- src/read.rt:41:9
--- src/read.rt:43:9
--- src/read.rt:36:1
--- src/read.rt:36:1
 use Rattle.table_index.proofs.laws.Owned.{first_any, first_beyond}
-use borrow.Author.Rules.{rules}
-use Rattle.table_index.proofs.read.first_transition.Reads as reads
-use Rattle.store_words.proofs.shape.transitions.Reads as transitions_reads
-use Rattle.table_index.proofs.read.entry.Reads as entry_reads
 use Rattle.table_index.proofs.read.first_transition.Goals as goal
 
 pub returns-then-q-lt512 : goal.returns-then-q-lt512

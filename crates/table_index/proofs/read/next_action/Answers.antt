@@ -1,10 +1,4 @@
--- src/read.rt:72:15
--- src/read.rt:72:5
--- src/read.rt:68:1
 use Rattle.table_index.proofs.laws.Owned.{follows_any}
-use borrow.Author.Rules.{rules}
-use Rattle.table_index.proofs.read.next_action.Reads as reads
-use Rattle.table_index.proofs.read.entry.Reads as entry_reads
 use Rattle.table_index.proofs.read.next_action.Goals as goal
 
 pub returns : goal.returns

@@ -1,17 +1,10 @@
 use Rattle.rules_walks.specs.Held.{held_to}
 use Rattle.rules_tables.specs.Fresh.{eight_at_most}
-use Rattle.rules_tables.proofs.laws.Places.{kind_le}
 use Rattle.table_network.specs.Keys.{slot_of, Slotting}
 use Rattle.table_network.specs.Windows.{under_key}
-use Rattle.table_network.proofs.laws.Counted.{events_told, slotting_less, eight_past}
-use Rattle.table_network.proofs.laws.Known.{stretches_less}
-use Rattle.table_network.proofs.laws.Windows.{windows_none, windows_more, windows_all}
 use lib.ListN.{length}
-use lib.Seq.{length-take-le}
-use mathlib.Core.Path.{◌≡◌, refl, sym}
-use native.Mathlib.Omega.{arith}
-use Prim.Native.Nat.{◌≤◌, ◌-◌, ◌+◌, ◌/◌}
-use borrow.Author.Rules.{rules}
+use mathlib.Core.Path.{◌≡◌}
+use Prim.Native.Nat.{◌≤◌, ◌-◌, ◌+◌}
 use Rattle.table_network.proofs.eight.eight_end.Given as goal
 
 abbrev pub invariant-loop-b : goal.invariant-loop-b

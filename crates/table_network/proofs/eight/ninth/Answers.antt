@@ -3,7 +3,6 @@
 use Rattle.table_network.proofs.laws.Counted.{counted_small, eight_low, counted_low, eight_in, counted_in, eight_high, counted_high}
 use native.Mathlib.Omega.{arith}
 use Prim.Native.Nat.{◌-◌}
-use borrow.Author.Rules.{rules}
 use Rattle.table_network.proofs.eight.ninth.Goals as goal
 
 pub returns-then-s-b : goal.returns-then-s-b

@@ -1,7 +1,6 @@
 -- `eight::slot` meets its contract by the test of the flag.
 use Rattle.table_network.specs.Keys.{slot_of}
 use borrow.Author.Tests.{ne_eqb}
-use borrow.Author.Rules.{rules}
 use Rattle.table_network.proofs.eight.slot.Goals as goal
 
 pub returns-then-flag-eq-OF_INPUT : goal.returns-then-flag-eq-OF_INPUT

@@ -1,21 +1,13 @@
 -- `eight::window_end` meets its contract. The loop's invariant: the associations below f are counted by their events (`Counted`),
 -- and every frame below f keeps the rule in this window.
-use Rattle.rules_walks.specs.All.{all_to}
 use Rattle.rules_walks.proofs.laws.All.{all_more}
 use Rattle.rules_walks.proofs.laws.Held.{held_stop}
-use Rattle.rules_tables.specs.Fresh.{eight_at_most}
-use Rattle.table_network.specs.Counted.{Counted}
-use Rattle.table_network.specs.Keys.{slot_of, slotted}
-use Rattle.table_network.specs.Known.{Stretch}
-use Rattle.table_network.specs.Windows.{in_window}
+use Rattle.table_network.specs.Keys.{slotted}
 use Rattle.table_network.proofs.laws.Counted.{counted_from, eight_window_other, slotted_other}
 use Rattle.table_network.proofs.laws.Known.{stretch, stretch_start, stretch_end}
 use borrow.Author.Tests.{not-true, not-false}
-use lib.ListN.{length}
-use mathlib.Core.Bool.{true}
 use mathlib.Core.Path.{◌≡◌, refl, sym, ◌∙◌}
 use native.Mathlib.Omega.{arith}
-use Prim.Native.Nat.{◌≤◌, ◌-◌}
 use borrow.Author.Rules.{rules}
 use Rattle.table_network.proofs.eight.window_end.Goals as goal
 

@@ -1,20 +1,13 @@
 use Rattle.rules_walks.specs.All.{all_to}
-use Rattle.rules_walks.proofs.laws.All.{all_more}
-use Rattle.rules_walks.proofs.laws.Held.{held_stop}
 use Rattle.rules_tables.specs.Fresh.{eight_at_most}
 use Rattle.table_network.specs.Counted.{Counted}
 use Rattle.table_network.specs.Keys.{slot_of, slotted}
 use Rattle.table_network.specs.Known.{Stretch}
 use Rattle.table_network.specs.Windows.{in_window}
-use Rattle.table_network.proofs.laws.Counted.{counted_from, eight_window_other, slotted_other}
-use Rattle.table_network.proofs.laws.Known.{stretch, stretch_start, stretch_end}
-use borrow.Author.Tests.{not-true, not-false}
 use lib.ListN.{length}
 use mathlib.Core.Bool.{true}
-use mathlib.Core.Path.{◌≡◌, refl, sym, ◌∙◌}
-use native.Mathlib.Omega.{arith}
+use mathlib.Core.Path.{◌≡◌}
 use Prim.Native.Nat.{◌≤◌, ◌-◌}
-use borrow.Author.Rules.{rules}
 use Rattle.table_network.proofs.eight.window_end.Given as goal
 
 abbrev pub invariant-loop-f : goal.invariant-loop-f

@@ -1,16 +1,10 @@
 -- `fresh::fresh_end` meets its contract. The loop's invariant: the windows up to key b are looked at.
-use Rattle.rules_walks.specs.Held.{held_to}
-use Rattle.rules_tables.specs.Fresh.{fresh}
-use Rattle.table_network.specs.Keys.{key_at}
-use Rattle.table_network.specs.Windows.{under_key}
 use Rattle.table_network.proofs.laws.Alike.{telling_less, fresh_past}
 use Rattle.table_network.proofs.laws.Known.{stretches_less}
 use Rattle.table_network.proofs.laws.Windows.{windows_none, windows_more, windows_all}
-use lib.ListN.{length}
 use lib.Seq.{length-take-le}
-use mathlib.Core.Path.{◌≡◌, refl, sym}
+use mathlib.Core.Path.{refl, sym}
 use native.Mathlib.Omega.{arith}
-use Prim.Native.Nat.{◌≤◌, ◌-◌, ◌+◌}
 use borrow.Author.Rules.{rules}
 use Rattle.table_network.proofs.fresh.fresh_end.Goals as goal
 

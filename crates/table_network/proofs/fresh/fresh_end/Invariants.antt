@@ -2,15 +2,9 @@ use Rattle.rules_walks.specs.Held.{held_to}
 use Rattle.rules_tables.specs.Fresh.{fresh}
 use Rattle.table_network.specs.Keys.{key_at}
 use Rattle.table_network.specs.Windows.{under_key}
-use Rattle.table_network.proofs.laws.Alike.{telling_less, fresh_past}
-use Rattle.table_network.proofs.laws.Known.{stretches_less}
-use Rattle.table_network.proofs.laws.Windows.{windows_none, windows_more, windows_all}
 use lib.ListN.{length}
-use lib.Seq.{length-take-le}
-use mathlib.Core.Path.{◌≡◌, refl, sym}
-use native.Mathlib.Omega.{arith}
+use mathlib.Core.Path.{◌≡◌}
 use Prim.Native.Nat.{◌≤◌, ◌-◌, ◌+◌}
-use borrow.Author.Rules.{rules}
 use Rattle.table_network.proofs.fresh.fresh_end.Given as goal
 
 abbrev pub invariant-loop-b : goal.invariant-loop-b

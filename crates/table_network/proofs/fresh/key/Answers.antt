@@ -1,7 +1,6 @@
 -- `fresh::key` meets its contract: each arm is `key_at` at that kind, its fields folded into what was read.
 use Rattle.table_network.specs.Keys.{key_at}
 use borrow.Author.Tests.{ne_eqb}
-use borrow.Author.Rules.{rules}
 use Rattle.table_network.proofs.fresh.key.Goals as goal
 
 pub returns-in-2 : goal.returns-in-2

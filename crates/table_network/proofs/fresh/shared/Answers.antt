@@ -2,7 +2,6 @@
 -- a frame whose key is not in it leaves the set as it is.
 use Rattle.table_network.proofs.laws.Alike.{told_low, marked_low, told_in, marked_in, told_high, marked_high}
 use mathlib.Core.Path.{◌∙◌}
-use borrow.Author.Rules.{rules}
 use Rattle.table_network.proofs.fresh.shared.Goals as goal
 
 pub returns-then-i-b : goal.returns-then-i-b

@@ -1,22 +1,14 @@
 -- `fresh::window_end` meets its contract. The loop's invariant: the set has the keys of the frames of kind k below f (`Marked`),
 -- and every frame below f keeps the rule in this window.
-use Rattle.rules_walks.specs.All.{all_to}
 use Rattle.rules_walks.proofs.laws.All.{all_more}
 use Rattle.rules_walks.proofs.laws.Held.{held_stop}
-use Rattle.numbers_bits.specs.Marked.{Marked}
 use Rattle.numbers_bits.proofs.laws.Marked.{marked_from}
-use Rattle.rules_tables.specs.Fresh.{fresh}
-use Rattle.table_network.specs.Keys.{key_at, keyed}
-use Rattle.table_network.specs.Known.{Stretch}
-use Rattle.table_network.specs.Windows.{in_window}
+use Rattle.table_network.specs.Keys.{keyed}
 use Rattle.table_network.proofs.laws.Alike.{window_other, keyed_other}
 use Rattle.table_network.proofs.laws.Known.{stretch, stretch_start, stretch_end}
 use borrow.Author.Tests.{not-true, not-false}
-use lib.ListN.{length}
-use mathlib.Core.Bool.{true}
 use mathlib.Core.Path.{◌≡◌, refl, sym, ◌∙◌}
 use native.Mathlib.Omega.{arith}
-use Prim.Native.Nat.{◌≤◌, ◌-◌, ◌*◌}
 use borrow.Author.Rules.{rules}
 use Rattle.table_network.proofs.fresh.window_end.Goals as goal
 

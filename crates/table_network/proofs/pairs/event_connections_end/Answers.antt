@@ -4,7 +4,6 @@ use Rattle.rules_tables.proofs.laws.Places.{kind_le}
 use lib.ListN.{length}
 use native.Mathlib.Omega.{arith}
 use Prim.Native.Nat.{◌/◌}
-use borrow.Author.Rules.{rules}
 use Rattle.table_network.proofs.pairs.event_connections_end.Goals as goal
 
 pub count-inputs-requires : goal.count-inputs-requires

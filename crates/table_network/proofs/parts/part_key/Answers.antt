@@ -1,5 +1,4 @@
 -- `parts::part_key` meets its contract: each return is `part_key` with its two tests decided.
-use borrow.Author.Rules.{rules}
 use Rattle.table_network.specs.Keys.{part_key}
 use borrow.Author.Tests.{lt-ltb, le-ltb}
 use Rattle.table_network.proofs.parts.part_key.Goals as goal

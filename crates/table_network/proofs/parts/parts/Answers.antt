@@ -1,6 +1,5 @@
 -- `parts::parts` meets its contract: in a table in order no frame before the event inputs is a part (`parts_from`), and none behind the variables (`parts_rest`).
 use Rattle.table_network.proofs.laws.Parts.{starts_rise, parts_from, parts_rest}
-use borrow.Author.Rules.{rules}
 use Rattle.table_network.proofs.parts.parts.Goals as goal
 
 pub tally_parts-requires : goal.tally_parts-requires

@@ -1,5 +1,4 @@
 -- `parts::parts_of` meets its contract: the entry of element and class counts the parts by `parts_tally`.
-use borrow.Author.Rules.{rules}
 use Rattle.table_network.proofs.laws.Parts.{parts_tally}
 use mathlib.Core.Path.{◌∙◌}
 use Rattle.table_network.proofs.parts.parts_of.Goals as goal

@@ -1,10 +1,7 @@
 -- `parts::tally_parts` meets its contract. The loop's invariant: m counts the frames below f by their part's key (`Tallied`).
-use Rattle.rules_walks.specs.Tally.{Tallied}
 use Rattle.rules_walks.proofs.laws.Tally.{tallied_more, tallied_small}
-use Rattle.table_network.specs.Keys.{part_key}
 use mathlib.Core.Path.{◌≡◌, sym, ◌∙◌}
 use native.Mathlib.Omega.{arith}
-use Prim.Native.Nat.{◌≤◌, ◌-◌}
 use borrow.Author.Rules.{rules}
 use Rattle.table_network.proofs.parts.tally_parts.Goals as goal
 

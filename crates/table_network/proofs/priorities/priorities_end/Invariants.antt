@@ -1,19 +1,11 @@
 use Rattle.rules_walks.specs.All.{all_to}
-use Rattle.rules_walks.proofs.laws.All.{all_none, all_more}
-use Rattle.rules_walks.proofs.laws.Held.{held_stop}
 use Rattle.numbers_bits.specs.Marked.{Marked}
-use Rattle.numbers_bits.proofs.laws.Marked.{marked_none}
 use Rattle.rules_tables.specs.Fresh.{fresh}
 use Rattle.table_network.specs.Keys.{filtered}
 use Rattle.table_network.specs.Known.{Stretch}
-use Rattle.table_network.proofs.laws.Alike.{fresh_other}
-use Rattle.table_network.proofs.laws.Known.{stretch_end}
-use Rattle.table_network.proofs.laws.Priorities.{elements_first, priority_fresh}
 use mathlib.Core.Bool.{true}
-use mathlib.Core.Path.{◌≡◌, sym}
-use native.Mathlib.Omega.{arith}
+use mathlib.Core.Path.{◌≡◌}
 use Prim.Native.Nat.{◌≤◌, ◌-◌}
-use borrow.Author.Rules.{rules}
 use Rattle.table_network.proofs.priorities.priorities_end.Given as goal
 
 abbrev pub invariant-loop-f : goal.invariant-loop-f

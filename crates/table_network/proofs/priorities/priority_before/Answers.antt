@@ -1,12 +1,9 @@
 -- `priorities::priority_before` meets its contract. The loop's invariant: no frame below g has the number.
-use Rattle.rules_walks.specs.All.{any_to}
 use Rattle.rules_walks.proofs.laws.All.{any_none, any_more, any_stop}
 use Rattle.table_network.specs.Keys.{same_priority}
 use borrow.Author.Tests.{eq-eqb, ne_eqb}
-use mathlib.Core.Bool.{false}
 use mathlib.Core.Path.{◌≡◌, sym, ◌∙◌}
 use native.Mathlib.Omega.{arith}
-use Prim.Native.Nat.{◌≤◌, ◌-◌}
 use borrow.Author.Rules.{rules}
 use Rattle.table_network.proofs.priorities.priority_before.Goals as goal
 

@@ -1,7 +1,6 @@
 -- `priorities::shared_priority` meets its contract: the filter tells by `filter_tells`, and grows by `filter_more`.
 use Rattle.table_network.proofs.laws.Priorities.{filter_tells, filter_more}
 use mathlib.Core.Path.{sym, ◌∙◌}
-use borrow.Author.Rules.{rules}
 use Rattle.table_network.proofs.priorities.shared_priority.Goals as goal
 
 pub returns-then-mark : goal.returns-then-mark

@@ -1,7 +1,5 @@
 -- `shapes::delay_shape` meets its contract: the tests of `delay_shape`, in the code's order.
-use borrow.Author.Rules.{rules}
 use Rattle.rules_tables.specs.Shapes.{delay_shape}
-use borrow.Author.Tests.{not-true, not-false}
 use Rattle.table_network.proofs.shapes.delay_shape.Goals as goal
 
 pub returns-then-not-has : goal.returns-then-not-has

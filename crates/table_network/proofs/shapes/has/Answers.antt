@@ -1,5 +1,4 @@
 -- `shapes::has` meets its contract: the number of parts is what `parts_of` tells.
-use borrow.Author.Rules.{rules}
 use Rattle.table_network.proofs.shapes.has.Goals as goal
 
 pub returns : goal.returns

@@ -1,5 +1,4 @@
 -- `shapes::interface_shape` meets its contract: the tests of `interface_shape`, in the code's order.
-use borrow.Author.Rules.{rules}
 use Rattle.rules_tables.specs.Shapes.{interface_shape}
 use borrow.Author.Tests.{eq-eqb, ne_eqb}
 use Rattle.table_network.proofs.shapes.interface_shape.Goals as goal

@@ -1,5 +1,4 @@
 -- `shapes::no_others` meets its contract: the second number decides only where the first is 0.
-use borrow.Author.Rules.{rules}
 use Rattle.table_network.proofs.shapes.no_others.Goals as goal
 
 pub returns-then-has : goal.returns-then-has

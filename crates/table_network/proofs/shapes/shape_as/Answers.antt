@@ -1,5 +1,4 @@
 -- `shapes::shape_as` meets its contract: each arm is `shape_as` at that sort.
-use borrow.Author.Rules.{rules}
 use Rattle.rules_tables.specs.Shapes.{shape_as}
 use borrow.Author.Tests.{ne_eqb}
 use Rattle.table_network.proofs.shapes.shape_as.Goals as goal

@@ -1,18 +1,12 @@
 -- `shapes::shapes_end` meets its contract. The loop's invariant: every frame below f keeps the rule. An element's id is its frame (`shape_element`),
 -- and below 64 (`element_few`), because the frames have their form.
-use Rattle.rules_walks.specs.All.{all_to}
 use Rattle.rules_walks.proofs.laws.All.{all_more}
 use Rattle.rules_walks.proofs.laws.Held.{held_stop}
 use Rattle.rules_walks.proofs.laws.Tally.{tallied_none}
-use Rattle.rules_tables.specs.Shapes.{shape_ok}
-use Rattle.table_network.specs.Known.{Stretch}
 use Rattle.table_network.proofs.laws.Known.{stretch, stretch_start, stretch_end}
 use Rattle.table_network.proofs.laws.Parts.{element_few, shape_element, shape_other}
-use borrow.Author.Tests.{not-true, not-false}
-use mathlib.Core.Bool.{true}
 use mathlib.Core.Path.{◌≡◌, sym, ◌∙◌}
 use native.Mathlib.Omega.{arith}
-use Prim.Native.Nat.{◌≤◌, ◌-◌}
 use borrow.Author.Rules.{rules}
 use Rattle.table_network.proofs.shapes.shapes_end.Goals as goal
 

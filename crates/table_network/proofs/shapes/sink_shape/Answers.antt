@@ -1,7 +1,5 @@
 -- `shapes::sink_shape` meets its contract: the tests of `sink_shape`, in the code's order.
-use borrow.Author.Rules.{rules}
 use Rattle.rules_tables.specs.Shapes.{sink_shape}
-use borrow.Author.Tests.{not-true, not-false}
 use Rattle.table_network.proofs.shapes.sink_shape.Goals as goal
 
 pub returns-then-not-has : goal.returns-then-not-has

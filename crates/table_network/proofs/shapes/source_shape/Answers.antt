@@ -1,7 +1,5 @@
 -- `shapes::source_shape` meets its contract: the tests of `source_shape`, in the code's order.
-use borrow.Author.Rules.{rules}
 use Rattle.rules_tables.specs.Shapes.{source_shape}
-use borrow.Author.Tests.{not-true, not-false}
 use Rattle.table_network.proofs.shapes.source_shape.Goals as goal
 
 pub returns-then-not-has : goal.returns-then-not-has
