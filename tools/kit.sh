@@ -103,29 +103,7 @@ compile() {
 
 # The static library, proved and written where it is older than a file of the crates. Exit status 2 where that fails.
 build_library() {
-    if ! is_newest "$archive" && ! { [[ -n ${JUST_PROVED:-} ]] && build_over_proved; }; then
-        proving xaluudhiga rt lib || unproved xaluudhiga
-    fi
-}
-
-# For the gate, which sets JUST_PROVED: the library over the libraries that rt ci has just proved and left in crates/*/out. rt lib would prove
-# them all once more where no check of this checkout kept any, since those of rt ci carry no stamp. Fails where one carries it, or is not there.
-build_over_proved() {
-    local name
-    local -a libraries=() named=() words=()
-    mapfile -t libraries < <(plan xaluudhiga | cut -d' ' -f1 | sed '$d')
-    for name in "${libraries[@]}"; do
-        [[ -d crates/$name/out/rlib/$name.rlib && ! -e crates/$name/out/rlib/stamp ]] || return 1
-        words+=(-L "dependency=../$name/out/rlib")
-    done
-    read -ra named < <(sed -n 's/#.*//; s/^xaluudhiga[^:]*://p' crates.txt)
-    for name in "${named[@]}"; do
-        words+=(--extern "$name=../$name/out/rlib/$name.rlib")
-    done
-    mkdir -p target crates/xaluudhiga/out
-    (cd crates/xaluudhiga && "$kit/bin/rattle" build --crate-name xaluudhiga src/lib.rt --crate-type staticlib -o out/libxaluudhiga.a --jobs 2 \
-        --extern "std=$kit/rlibs/std.rlib" -L "dependency=$kit/rlibs" "${words[@]}" \
-        --antt-project "$kit/rattle/logic/antt-project.json" --logic-built "$kit/logic_built" --toolchain "$toolchain") </dev/null >target/xaluudhiga.log 2>&1
+    is_newest "$archive" || proving xaluudhiga rt lib || unproved xaluudhiga
 }
 
 link() { # SOURCE PROGRAM [SOURCE..]

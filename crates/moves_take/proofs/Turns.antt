@@ -155,21 +155,21 @@ module _ (T : List ℕ) (S : Shape) (i : ℕ) {el : ℕ} (owner : el ≡ input_o
 -- ---- an event received, by the element's sort
 module _ (T : List ℕ) (S : Shape) (i time : ℕ) (s o : List ℕ) (at : ℕ) {sort el birth last : ℕ} (e : Event T S s i sort el birth last) where
   fires_none : (sort ≡ interface → ⊥) → fired_by T S i ≡ missing
-  fires_none n = fires_nothing T S i (λ q. n (e.sort_is_lem ∙ q))
+  fires_none n = fires_nothing T S i (λ q. n (e.sort_is ∙ q))
 
   fires_partner : sort ≡ interface → fired_by T S i ≡ partner_output T S i
   unfolding fired_by
-  fires_partner q = choose_true _ _ _ (eq-eqb _ _ (sym e.sort_is_lem ∙ q))
+  fires_partner q = choose_true _ _ _ (eq-eqb _ _ (sym e.sort_is ∙ q))
 
   module _ {s₁ s' : List ℕ} (stopped : s₁ ≡ put_input S i 0 0 0 s) where
     took : {q : Sought} → fired_by T S i ≡ q → s' ≡ fire_found T S q birth time (settle sort T S el i birth time (samples T S i s₁)) → s' ≡ taken T S i time s
     unfolding taken settled sampled
-    took f w = rw (f, ← e.sort_is_lem, ← e.element_is, ← e.birth_is, ← stopped) w
+    took f w = rw (f, ← e.sort_is, ← e.element_is, ← e.birth_is, ← stopped) w
 
     -- no sink: nothing is written
     unwritten : (sort ≡ sink → ⊥) → s' ≡ taken T S i time s → Received T S i time s s' o o at at
     unwritten n w =
-        let z = others_write_none T S i (λ q. n (e.sort_is_lem ∙ q)) (birth_of S s i) time s in
+        let z = others_write_none T S i (λ q. n (e.sort_is ∙ q)) (birth_of S s i) time s in
         record { store_is = w; output_is = rw z refl; place_is = rw z (omega arith) }
 
     pub received_basic : {s₂ : List ℕ} → sort ≡ basic → s₂ ≡ samples T S i s₁ → s' ≡ wake el i birth s₂ → Received T S i time s s' o o at at
@@ -189,7 +189,7 @@ module _ (T : List ℕ) (S : Shape) (i time : ℕ) (s o : List ℕ) (at : ℕ) {
         → Received T S i time s s' o o' at r
     unfolding fire_found settle choose record_of sampled
     received_sink k w =
-        let f = sym e.sort_is_lem ∙ k in
+        let f = sym e.sort_is ∙ k in
         record {
           store_is = took (fires_none (λ q. omega arith)) (rw k w.0);
           output_is = rw (sink_writes T S i f (birth_of S s i) time s, ← stopped, ← e.birth_is, ← e.last_is, ← e.element_is) w.1;
@@ -203,7 +203,7 @@ module _ (T : List ℕ) (S : Shape) (i time : ℕ) (s o : List ℕ) (at : ℕ) {
 
   -- there is room for a sink's record
   pub record_fits : (room : ℕ) → sort ≡ sink → at + length (put_out T S i birth time s) ≤ room → at + record_size T S i ≤ room
-  record_fits room k h = rw ((sink_sized T S i (sym e.sort_is_lem ∙ k)).bytes_are birth time s) at h
+  record_fits room k h = rw ((sink_sized T S i (sym e.sort_is ∙ k)).bytes_are birth time s) at h
 
   pub element_in : Good T S → i < inputs S → el < elements S
   element_in g l = let h = g.input_element i l in let z = e.element_is in omega arith

@@ -14,7 +14,7 @@ pub record Sized (T : List ℕ) (S : Shape) (i z : ℕ) : Type 0 where
 
 -- what is known of the event that waits at event input i of store s: its element, that element's sort, its birth and its last update
 pub record Event (T : List ℕ) (S : Shape) (s : List ℕ) (i sort el birth last : ℕ) : Type 0 where
-  pub sort_is_lem : sort ≡ flag_at T (input_owner T S i)
+  pub sort_is : sort ≡ flag_at T (input_owner T S i)
   pub element_is : el ≡ input_owner T S i
   pub birth_is : birth ≡ birth_of S s i
   pub last_is : last ≡ last_update S s i

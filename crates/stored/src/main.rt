@@ -10,7 +10,6 @@ use lines::part::stretch;
 use session_dialogue::feeding::{END_ROOM, feed, finish};
 use session_dialogue::part::has_room;
 use session_dialogue::session::Session;
-use std::io;
 use std::io::Read;
 
 // The place of the next such mark from `from` on, or the end.
@@ -163,11 +162,11 @@ fn begins_short(input: &[u8]) -> bool {
 }
 
 // Tells of session number k whether it printed its answer.
-fn tell(rt: &impl Print, k: u64, right: bool) -> io::Result<()> {
+fn tell(rt: &impl Print, k: u64, right: bool) {
     if right {
-        println!(rt; "{k} alike")
+        let _ = println!(rt; "{k} alike");
     } else {
-        println!(rt; "{k} DIFFERS")
+        let _ = println!(rt; "{k} DIFFERS");
     }
 }
 
@@ -178,8 +177,8 @@ fn one(all: &[u8], from: usize, to: usize, answer: usize, end: usize) -> bool {
     same(stretch(&text, n), between(all, answer, end))
 }
 
-fn total(rt: &impl Print, right: u64, k: u64) -> io::Result<()> {
-    println!(rt; "{right} of {k} sessions print their answers")
+fn total(rt: &impl Print, right: u64, k: u64) {
+    let _ = println!(rt; "{right} of {k} sessions print their answers");
 }
 
 // One more, if it is right.
@@ -191,7 +190,7 @@ fn counted(n: u64, right: bool) -> u64
 }
 
 // Each session with its answer.
-fn tell_all(rt: &impl Print, all: &[u8]) -> io::Result<()>
+fn tell_all(rt: &impl Print, all: &[u8])
     requires { length all.now ≤ 131072 }
 {
     let n = all.len();
@@ -203,12 +202,12 @@ fn tell_all(rt: &impl Print, all: &[u8]) -> io::Result<()>
         let answer = after_mark(all, to);
         let end = next_mark(all, b'=', answer);
         let is_right = one(all, from, to, answer, end);
-        tell(rt, k, is_right)?;
+        tell(rt, k, is_right);
         right = counted(right, is_right);
         k += 1;
         from = after_mark(all, end);
     }
-    total(rt, right, k)
+    total(rt, right, k);
 }
 
 // Reads until the room is full, the input ends or a read fails. Answers how many bytes came.
@@ -228,9 +227,9 @@ fn read_full<R: Read>(from: &mut R, room: &mut [u8]) -> usize
     done
 }
 
-fn main(rt: HostRuntime) -> io::Result<()> {
+fn main(rt: HostRuntime) {
     let mut room = [0u8; 131072];
     let mut from = rt.reader();
     let n = read_full(&mut from, &mut room);
-    tell_all(&rt, stretch(&room, n))
+    tell_all(&rt, stretch(&room, n));
 }

@@ -1,4 +1,4 @@
--- `number_main::bytes` meets its contract: the bytes that `put_word` leaves, and the number that `word_at` finds in them, are computed.
+-- `cases_numbers::bytes` meets its contract: the bytes that `put_word` leaves, and the number that `word_at` finds in them, are computed.
 use Prim.Native.Nat.{ℕ}
 use mathlib.Core.Path.{ap, ◌∙◌}
 use mathlib.Core.List.{List}

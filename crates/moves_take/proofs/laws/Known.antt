@@ -22,4 +22,4 @@ module _ (T : List ℕ) (S : Shape) (i : ℕ) where
       (arith, g.to_inputs, g.to_outputs, g.to_variables, g.to_associations, g.to_states, g.to_transitions, g.to_actions, g.to_steps, g.to_connections, g.to_links, g.to_end)
 
   pub event_known : (s : List ℕ) {el sort birth last : ℕ} → el ≡ input_owner T S i → sort ≡ flag_at T el → birth ≡ birth_of S s i → last ≡ last_update S s i → Event T S s i sort el birth last
-  event_known s a b c d = record { sort_is_lem = rw a at b; element_is = a; birth_is = c; last_is = d }
+  event_known s a b c d = record { sort_is = rw a at b; element_is = a; birth_is = c; last_is = d }

@@ -9,7 +9,7 @@ pub wake-requires : goal.wake-requires
 wake-requires c = let l = element_small _ _ _ 0 _ [] 0 c.requires.2 c.requires.0 c.requires.1 in let g = c.requires.0 in (l, omega arith)
 
 pub relay-requires : goal.relay-requires
-relay-requires c = (c.requires.0, c.requires.1, sym c.requires.2.sort_is_lem ∙ c.in-1.is, c.requires.5)
+relay-requires c = (c.requires.0, c.requires.1, sym c.requires.2.sort_is ∙ c.in-1.is, c.requires.5)
 
 pub start_stop-requires : goal.start_stop-requires
 start_stop-requires c =
