@@ -1,13 +1,11 @@
 // A run with its trace.
 ghost use Rattle.rules_traces.specs.Public.{TracedCall};
 
-use crate::{refused, store_refusal};
+use crate::open;
 use calls_run::running::run_moves;
-use rules_calls::Answer;
-use rules_tables::Judged;
+use rules_calls::Outcome;
 use rules_traces::Traced;
 use store_words::word::time;
-use table_check::check;
 
 // Makes moves until no move exists (1), else the next move's record has no room (3), else its frames have no room in the trace (4), else the budget is used (2).
 pub fn run_traced(
@@ -19,24 +17,19 @@ pub fn run_traced(
 ) -> Traced
     ensures { TracedCall t.now store.old budget out.old trace.old result store.new out.new trace.new }
 {
-    let judged = check(t);
-    let Judged::Sound(shape) = judged else {
-        return Traced {
-            answer: refused(judged),
-            traced: 0,
-        };
+    let net = match open(t, store) {
+        Ok(net) => net,
+        Err(refusal) => {
+            return Traced {
+                answer: Err(refusal),
+                traced: 0,
+            };
+        }
     };
-    let q = store_refusal(t, store, shape);
-    if q != 0 {
-        return Traced {
-            answer: Answer::Refused(q, 0),
-            traced: 0,
-        };
-    }
     let at = time(store);
-    let r = run_moves(t, store, shape, at, budget, out, trace, true);
+    let r = run_moves(&net, store, at, budget, out, trace, true);
     Traced {
-        answer: Answer::Ran(r.moves, r.bytes, r.stop, r.untrue),
+        answer: Ok(Outcome::Ran(r.moves, r.bytes, r.stop, r.untrue)),
         traced: r.traced,
     }
 }

@@ -1,4 +1,5 @@
 pub mod laws
+mod Asked
 mod Tracing
 mod Turns
 mod Going

@@ -27,6 +27,9 @@ use Rattle.rules_traces.specs.Run.{trace, trace_room_for, traced_continues, trac
 use Rattle.moves_tell.specs.Before.{numbers_by}
 use Rattle.moves_tell.specs.Telling.{Telling}
 use Rattle.moves_tell.specs.Told.{Told, Room}
+use Rattle.moves_tell.specs.Taped.{Taped, Space}
+use Rattle.moves_tell.specs.declared.tape.Tape.{Tape}
+use Rattle.calls_run.specs.TapedIf.{TapedIf}
 use Rattle.moves_tell.proofs.laws.Told.{told_length}
 use Rattle.moves_tell.proofs.laws.Sizing.{last_room, all_told}
 use Rattle.calls_run.specs.RunMade.{asked, asked_traced, asked_by, ToldIf, TracedMade, RanAs}
@@ -127,12 +130,13 @@ module _ (tracing : Bool) (es : List Entry) (at : ℕ) (tr : List ℕ) where
       let q = d.place_is in
       record { told = λ _. d; long = l; fits = omega arith }
 
-  -- after a branch: what the trace and the place then are
-  pub told_here : Room es at tr → {tr' tr'' : List ℕ} {q r : ℕ} → Told es at tr tr' q → tr'' ≡ tr' → r ≡ q → ToldIf tracing es at tr tr'' r
-  told_here w d a b = rw (a, b) (all_told_if w d)
+-- after a branch: what the tape then is
+module _ {tracing : Bool} (es : List Entry) (t : Tape) where
+  pub taped_here : Space es t → {t' t'' : Tape} → Taped es t t' → t'' ≡ t' → TapedIf tracing es t t''
+  taped_here w d a = rw a (record { told_if = all_told_if tracing es t.at t.bytes.now w d.told; same = d.same })
 
-  pub not_told_here : at ≤ length tr → tracing ≡ false → {tr' : List ℕ} {r : ℕ} → tr' ≡ tr → r ≡ at → ToldIf tracing es at tr tr' r
-  not_told_here l e a b = rw (a, b) (not_told l e)
+  pub not_taped_here : t.at ≤ length t.bytes.now → tracing ≡ false → {t' : Tape} → t' ≡ t → TapedIf tracing es t t'
+  not_taped_here l e a = rw a (record { told_if = not_told tracing es t.at t.bytes.now l e; same = refl })
 
 -- both parts of a move's frames: those told from the store before it, and its numbers
 module _ (T : List ℕ) (S : Shape) (time : ℕ) (r : Running) (n : Next) (s : List ℕ) (w : Telling T S time r n s) (tracing : Bool) (at : ℕ) (tr : List ℕ) {tr' : List ℕ} {q : ℕ}

@@ -3,7 +3,7 @@ use mathlib.Core.Path.{◌≡◌, refl, sym, ◌∙◌}
 use mathlib.Core.List.{List}
 use mathlib.Core.Bool.{Bool, true, false}
 use mathlib.Core.Logic.{inl, inr, ⊎_elim}
-use Prim.Native.Nat.{ℕ, ◌+◌, ◌<◌}
+use Prim.Native.Nat.{ℕ, ◌<◌}
 use native.Mathlib.Omega.{arith}
 use lib.Dec.{eqb, ltb}
 use lib.ListN.{get_or}
@@ -26,8 +26,7 @@ use Rattle.rules_store.proofs.laws.Writer.{leaves_now}
 use Rattle.rules_store.proofs.laws.PutDue.{put_keeps, leaves_keeps}
 use Rattle.rules_store.specs.Due.{due_at, put_due}
 use Rattle.rules_store.specs.Earliest.{NextKept}
-use Rattle.table_parts.specs.declared.Found.{Found}
-use Rattle.table_parts.specs.declared.Found.TheVariants.{One, Missing}
+use Rattle.std.specs.Prelude.{Option, Some, None}
 use Rattle.rules_tables.specs.Owned.{any, belongs, rank, is_nth, nth}
 use Rattle.table_parts.specs.Found.{found_of}
 use Rattle.table_parts.proofs.laws.Found.{found_one, found_missing}
@@ -37,7 +36,6 @@ use Rattle.rules_moves.specs.Carry.{voice, voice_of, speaks}
 use Rattle.moves_fire.proofs.laws.Carrying.{speaks_belongs}
 use Rattle.table_index.specs.Leads.{Leads}
 use Rattle.table_index.proofs.laws.Leads.{leads_same}
-use Rattle.table_index.specs.Index.{FollowsEvent}
 use Rattle.rules_moves.specs.Fire.{fire}
 use Rattle.rules_moves.specs.Take.{fire_found}
 use Rattle.rules_moves.proofs.laws.Firing.{fire_leaves}
@@ -53,17 +51,17 @@ module _ (T : List ℕ) (S : Shape) (t el : ℕ) (s s' : List ℕ) where
   unfolding expire
   expire_not p q u = rw (choose_false _ _ _ (sym p ∙ q)) u
 
-  module _ {n : ℕ} (many : n ≡ outputs S) {f : Found} (found : f ≡ found_of (nth T (first_output S) n any el 0)) where
-    pub output_missing : f ≡ Missing → s' ≡ put_due S el 0 0 s → s' ≡ expired T S t el s
+  module _ {n : ℕ} (many : n ≡ outputs S) {f : Option ℕ} (found : f ≡ found_of (nth T (first_output S) n any el 0)) where
+    pub output_missing : f ≡ None → s' ≡ put_due S el 0 0 s → s' ≡ expired T S t el s
     unfolding expired fire_found
     output_missing m u = let e : nth T (first_output S) (outputs S) any el 0 ≡ missing = rw many at (found_missing (nth T (first_output S) n any el 0) _ found m) in rw e u
 
-    pub output_fired : (o : ℕ) {s₁ : List ℕ} → f ≡ One o → s₁ ≡ fire T S o t t s → s' ≡ put_due S el 0 0 s₁ → s' ≡ expired T S t el s
+    pub output_fired : (o : ℕ) {s₁ : List ℕ} → f ≡ Some o → s₁ ≡ fire T S o t t s → s' ≡ put_due S el 0 0 s₁ → s' ≡ expired T S t el s
     unfolding expired fire_found
     output_fired o m p u =
         let e : nth T (first_output S) (outputs S) any el 0 ≡ one o = rw many at (found_one (nth T (first_output S) n any el 0) _ o found m) in rw (e, ← p) u
 
-pub output_known : (T : List ℕ) (S : Shape) (el n o : ℕ) {f : Found} → n ≡ outputs S → f ≡ found_of (nth T (first_output S) n any el 0) → f ≡ One o → o < outputs S
+pub output_known : (T : List ℕ) (S : Shape) (el n o : ℕ) {f : Option ℕ} → n ≡ outputs S → f ≡ found_of (nth T (first_output S) n any el 0) → f ≡ Some o → o < outputs S
 output_known T S el n o e p m = let h = first_in (is_nth T (first_output S) any el 0) 0 n o (found_one (nth T (first_output S) n any el 0) _ o p m) in omega arith
 
 -- ---- the next due time: firing leaves it, and so does now
@@ -104,10 +102,9 @@ give_idle T S o vs j e s = choose_false _ _ _ e
 pub voices : (T : List ℕ) (S : Shape) (o : ℕ) {a b : ℕ} → Leads (belongs T (first_association S) of_output o) a b (associations S) → Leads (speaks T S (voice of_output o)) a b (associations S)
 voices T S o l = leads_same (λ i _. sym (speaks_belongs T S of_output o i (omega arith))) l
 
--- the next of an association that speaks
-pub next_voice : (T : List ℕ) (S : Shape) (o j : ℕ) {r : ℕ} → FollowsEvent T (first_association S) (associations S) j r → speaks T S (voice of_output o) j ≡ true
-    → Leads (speaks T S (voice of_output o)) (j + 1) r (associations S)
-next_voice T S o j f e = voices T S o ((f.under of_output (omega arith)).next o (sym (speaks_belongs T S of_output o j (omega arith)) ∙ e))
+-- an association of the event speaks for it
+pub voice_at : (T : List ℕ) (S : Shape) (o j : ℕ) → belongs T (first_association S) of_output o j ≡ true → speaks T S (voice of_output o) j ≡ true
+voice_at T S o j e = speaks_belongs T S of_output o j (omega arith) ∙ e
 
 -- how many speak, as their rank among the associations
 pub many_speak : (T : List ℕ) (S : Shape) (o n : ℕ) {r m : ℕ} → r ≡ rank T (first_association S) of_output o m → m ≡ n → r ≡ count_if (speaks T S (voice of_output o)) n

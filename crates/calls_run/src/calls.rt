@@ -1,12 +1,10 @@
 // Advance and arrival.
-ghost use Rattle.std.specs.Prelude.{◌≡◌, true, false, ◌<◌, eqb, ltb, length};
+ghost use Rattle.std.specs.Prelude.{◌≡◌, true, ◌<◌, eqb, ltb, length};
 ghost use Rattle.rules_walks.specs.Pick.{either};
 ghost use Rattle.rules_walks.specs.Walk.{up_to};
-ghost use Rattle.rules_walks.specs.Choose.{choose};
-ghost use Rattle.rules_tables.specs.Good.{Good};
 ghost use Rattle.rules_tables.specs.Ids.{elements as «elements_of», associations as «associations_of»};
 ghost use Rattle.rules_tables.specs.Lawful.{Lawful};
-ghost use Rattle.table_index.specs.Index.{Owners, Indexed};
+ghost use Rattle.table_index.specs.Index.{Owners};
 ghost use Rattle.rules_store.specs.Word.{next_due};
 ghost use Rattle.rules_store.specs.Earliest.{NextKept};
 ghost use Rattle.rules_calls.specs.Calls.{expired, expire, advanced, wrong_time, beyond_due, give, arrived, of_source, value_count as «value_count_of»};
@@ -15,58 +13,60 @@ use moves_fire::{fire, fire_by};
 use rules_moves::Voice;
 use rules_tables::Shape;
 use store_words::due::{due_at, put_due};
-use store_words::shape::{association_frame, associations, output_frame, outputs};
-use store_words::word::{next_due, put_time, put_value, time};
+use store_words::network::Network;
+use store_words::word::{LARGEST_TIME, next_due, put_time, put_value, time};
 use table_frames::frame::{field, flag};
 use table_frames::kind::{OF_OUTPUT, SOURCE};
-use table_index::index::{SIZE, index};
-use table_index::read::{first_association, next_association};
-use table_parts::{ANY, Found, nth, rank};
+use table_index::index::SIZE;
+use table_index::indexed::IndexedNetwork;
+use table_parts::{ANY, nth, rank};
 
 // Delay el, due at the time `to`, fires with that birth and is cleared.
-fn expire_delay(t: &[u8], ix: &[u16; SIZE], store: &mut [u32], shape: Shape, el: usize, to: u32)
-    requires { Good t.now shape × (el < elements_of shape) × Indexed t.now shape ix.now × Lawful t.now shape × NextKept shape store.old }
-    ensures { store.new ≡ expired t.now shape to el store.old }
+fn expire_delay(ix: &IndexedNetwork, store: &mut [u32], el: usize, to: u32)
+    requires { (el < elements_of ix.now.net.shape) × Lawful ix.now.net.table.now ix.now.net.shape × NextKept ix.now.net.shape store.old }
+    ensures { store.new ≡ expired ix.now.net.table.now ix.now.net.shape to el store.old }
 {
-    let Found::One(o) = nth(t, shape.inputs_end, outputs(shape), ANY, el, 0) else {
-        put_due(store, shape, el, 0, 0);
+    let Some(o) = nth(
+        ix.net.table,
+        ix.net.shape.inputs_end,
+        ix.net.shape.outputs(),
+        ANY,
+        el,
+        0,
+    ) else {
+        put_due(store, ix.net.shape, el, 0, 0);
         return;
     };
-    fire(t, ix, store, shape, o, to, to);
-    put_due(store, shape, el, 0, 0);
+    fire(ix, store, o, to, to);
+    put_due(store, ix.net.shape, el, 0, 0);
 }
 
 // Advance sets now, then fires, with birth `to`, each delay due then and clears it.
-fn advance_by(t: &[u8], ix: &[u16; SIZE], store: &mut [u32], shape: Shape, to: u32)
-    requires { Good t.now shape × Indexed t.now shape ix.now × Lawful t.now shape × NextKept shape store.old }
-    ensures { store.new ≡ advanced t.now shape to store.old }
+fn advance_by(ix: &IndexedNetwork, store: &mut [u32], to: u32)
+    requires { Lawful ix.now.net.table.now ix.now.net.shape × NextKept ix.now.net.shape store.old }
+    ensures { store.new ≡ advanced ix.now.net.table.now ix.now.net.shape to store.old }
 {
     put_time(store, to);
-    expire_all(t, ix, store, shape, to);
+    expire_all(ix, store, to);
 }
 
-fn expire_all(t: &[u8], ix: &[u16; SIZE], store: &mut [u32], shape: Shape, to: u32)
-    requires { Good t.now shape × Indexed t.now shape ix.now × Lawful t.now shape × NextKept shape store.old }
-    ensures { store.new ≡ up_to (expire t.now shape to) (elements_of shape) store.old }
+fn expire_all(ix: &IndexedNetwork, store: &mut [u32], to: u32)
+    requires { Lawful ix.now.net.table.now ix.now.net.shape × NextKept ix.now.net.shape store.old }
+    ensures { store.new ≡ up_to (expire ix.now.net.table.now ix.now.net.shape to) (elements_of ix.now.net.shape) store.old }
 {
-    let n = shape.elements_end;
-    let mut el = 0;
-    while el < n {
+    for el in 0..ix.net.shape.elements() {
         if due_at(store, el, to) {
-            expire_delay(t, ix, store, shape, el, to);
+            expire_delay(ix, store, el, to);
         }
-        el += 1;
     }
 }
 
 // A time before now or above the largest.
+#[tactic(auto, unfolding(rules_calls::specs::Calls::wrong_time))]
 pub fn wrong_time(store: &[u32], to: u32) -> bool
     ensures { result ≡ wrong_time store.now to }
 {
-    if to < time(store) {
-        return true;
-    }
-    2147483647 < to
+    to < time(store) || LARGEST_TIME < to
 }
 
 // A time beyond the due time of a delay, which is one beyond the next due time.
@@ -75,10 +75,7 @@ pub fn beyond_due(store: &[u32], shape: Shape, to: u32) -> bool
     ensures { result ≡ beyond_due shape store.now to }
 {
     let next = next_due(store);
-    if next.due == 0 {
-        return false;
-    }
-    next.time < to
+    next.due != 0 && next.time < to
 }
 
 // Nothing is due by the time `to`, as the store tells it.
@@ -86,111 +83,88 @@ fn nothing_due(store: &[u32], to: u32) -> bool
     ensures { result ≡ either (eqb (next_due store.now).due 0) (ltb to (next_due store.now).time) }
 {
     let next = next_due(store);
-    if next.due == 0 {
-        return true;
-    }
-    to < next.time
+    next.due == 0 || to < next.time
 }
 
 // The values go into the associated output variables in table order.
-fn give_all(t: &[u8], ix: &[u16; SIZE], store: &mut [u32], shape: Shape, o: usize, values: &[u32])
-    requires { Good t.now shape × (length values.now ≡ value_count_of t.now shape o) × Indexed t.now shape ix.now }
-    ensures { store.new ≡ up_to (give t.now shape o values.now) (associations_of shape) store.old }
+fn give_all(ix: &IndexedNetwork, store: &mut [u32], o: usize, values: &[u32])
+    requires { length values.now ≡ value_count_of ix.now.net.table.now ix.now.net.shape o }
+    ensures { store.new ≡ up_to (give ix.now.net.table.now ix.now.net.shape o values.now) (associations_of ix.now.net.shape) store.old }
 {
-    let n = associations(shape);
     let mut k = 0;
-    let mut j = first_association(t, ix, shape, OF_OUTPUT, o);
-    while j < n {
-        let v = field(t, association_frame(t, shape, j), 1);
-        put_value(store, shape, v, values[k]);
+    for j in ix.associations_of(OF_OUTPUT, o) {
+        let v = field(ix.net.table, ix.net.association_frame(j), 1);
+        put_value(store, ix.net.shape, v, values[k]);
         k += 1;
-        j = next_association(t, ix, shape, j);
     }
 }
 
 // Arrival puts its values into the associated output variables, then fires with the given birth. A source's event speaks by these associations.
-fn arrive_by(
-    t: &[u8],
-    ix: &[u16; SIZE],
-    store: &mut [u32],
-    shape: Shape,
-    o: usize,
-    birth: u32,
-    values: &[u32],
-)
-    requires { Good t.now shape × Indexed t.now shape ix.now × (of_source t.now shape o ≡ true) × (length values.now ≡ value_count_of t.now shape o) }
-    ensures { store.new ≡ arrived t.now shape o birth values.now store.old }
+fn arrive_by(ix: &IndexedNetwork, store: &mut [u32], o: usize, birth: u32, values: &[u32])
+    requires { (of_source ix.now.net.table.now ix.now.net.shape o ≡ true) × (length values.now ≡ value_count_of ix.now.net.table.now ix.now.net.shape o) }
+    ensures { store.new ≡ arrived ix.now.net.table.now ix.now.net.shape o birth values.now store.old }
 {
     let at = time(store);
-    give_all(t, ix, store, shape, o, values);
+    give_all(ix, store, o, values);
     let w = Voice {
         flag: OF_OUTPUT,
         event: o,
     };
-    fire_by(t, ix, store, shape, o, w, birth, at);
+    fire_by(ix, store, o, w, birth, at);
 }
 
-// An arrival, or else an advance, with the index of the table. One function for both, so that the compiled code has the index in a frame of its own and not
-// in that of the call, below which the table was checked: together they would take more than 24 KB of the stack.
-fn come(
-    t: &[u8],
-    store: &mut [u32],
-    shape: Shape,
-    arriving: bool,
-    o: usize,
-    birth: u32,
-    values: &[u32],
-    to: u32,
-)
-    requires { Good t.now shape × Lawful t.now shape × Owners t.now shape × (arriving ≡ true → (of_source t.now shape o ≡ true) × (length values.now ≡ value_count_of t.now shape o)) × (arriving ≡ false → NextKept shape store.old) }
-    ensures { store.new ≡ choose arriving (arrived t.now shape o birth values.now store.old) (advanced t.now shape to store.old) }
+// The index of the table is in a frame of its own and not in that of the call, below which the table was checked: together they would take more than 24 KB of the
+// stack. So neither this function nor `arrive` is built into its caller.
+#[inline(never)]
+fn advance_due(net: &Network, store: &mut [u32], to: u32)
+    requires { Lawful net.now.table.now net.now.shape × Owners net.now.table.now net.now.shape × NextKept net.now.shape store.old }
+    ensures { store.new ≡ advanced net.now.table.now net.now.shape to store.old }
 {
-    let mut ix = [0u16; SIZE];
-    index(t, shape, &mut ix);
-    if arriving {
-        arrive_by(t, &ix, store, shape, o, birth, values);
-        return;
-    }
-    advance_by(t, &ix, store, shape, to);
+    let mut entries = [0u16; SIZE];
+    let ix = IndexedNetwork::new(*net, &mut entries);
+    advance_by(&ix, store, to);
 }
 
 // Time passes to `to`. Where nothing is due by then no element is looked at, and no index is made.
-pub fn advance_to(t: &[u8], store: &mut [u32], shape: Shape, to: u32)
-    requires { Good t.now shape × Lawful t.now shape × Owners t.now shape × NextKept shape store.old }
-    ensures { store.new ≡ advanced t.now shape to store.old }
+pub fn advance_to(net: &Network, store: &mut [u32], to: u32)
+    requires { Lawful net.now.table.now net.now.shape × Owners net.now.table.now net.now.shape × NextKept net.now.shape store.old }
+    ensures { store.new ≡ advanced net.now.table.now net.now.shape to store.old }
 {
     if nothing_due(store, to) {
         put_time(store, to);
         return;
     }
-    let none = [0u32; 0];
-    come(t, store, shape, false, 0, 0, &none, to);
+    advance_due(net, store, to);
 }
 
 // Event output o arrives.
-pub fn arrive(t: &[u8], store: &mut [u32], shape: Shape, o: usize, birth: u32, values: &[u32])
-    requires { Good t.now shape × (of_source t.now shape o ≡ true) × (length values.now ≡ value_count_of t.now shape o) × Lawful t.now shape × Owners t.now shape }
-    ensures { store.new ≡ arrived t.now shape o birth values.now store.old }
+#[inline(never)]
+pub fn arrive(net: &Network, store: &mut [u32], o: usize, birth: u32, values: &[u32])
+    requires { (of_source net.now.table.now net.now.shape o ≡ true) × (length values.now ≡ value_count_of net.now.table.now net.now.shape o) × Lawful net.now.table.now net.now.shape × Owners net.now.table.now net.now.shape }
+    ensures { store.new ≡ arrived net.now.table.now net.now.shape o birth values.now store.old }
 {
-    come(t, store, shape, true, o, birth, values, 0);
+    let mut entries = [0u16; SIZE];
+    let ix = IndexedNetwork::new(*net, &mut entries);
+    arrive_by(&ix, store, o, birth, values);
 }
 
 // An event output of a source.
-pub fn of_source(t: &[u8], shape: Shape, o: usize) -> bool
-    requires { Good t.now shape }
-    ensures { result ≡ of_source t.now shape o }
+#[tactic(auto, unfolding(rules_calls::specs::Calls::of_source))]
+pub fn of_source(net: &Network, o: usize) -> bool
+    ensures { result ≡ of_source net.now.table.now net.now.shape o }
 {
-    if o < outputs(shape) {
-        flag(t, field(t, output_frame(t, shape, o), 0)) == SOURCE
-    } else {
-        false
-    }
+    o < net.shape.outputs() && flag(net.table, field(net.table, net.output_frame(o), 0)) == SOURCE
 }
 
 // How many values an arrival of event output o has.
-pub fn value_count(t: &[u8], shape: Shape, o: usize) -> usize
-    requires { Good t.now shape }
-    ensures { result ≡ value_count_of t.now shape o }
+pub fn value_count(net: &Network, o: usize) -> usize
+    ensures { result ≡ value_count_of net.now.table.now net.now.shape o }
 {
-    rank(t, shape.variables_end, OF_OUTPUT, o, associations(shape))
+    rank(
+        net.table,
+        net.shape.variables_end,
+        OF_OUTPUT,
+        o,
+        net.shape.associations(),
+    )
 }

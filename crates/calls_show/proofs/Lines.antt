@@ -5,16 +5,11 @@ use mathlib.Core.Bool.{Bool, true, false, not}
 use Prim.Native.Nat.{ℕ, ◌+◌, ◌*◌, ◌-◌, ◌≤◌, ◌<◌}
 use native.Mathlib.Omega.{arith}
 use lib.Dec.{eqb}
-use lib.ListN.{length, take, drop, length-take, length-drop, get_or-eq_default}
+use lib.ListN.{length, take, drop, length-take, length-drop}
 use borrow.Author.Tests.{ne_eqb, eqb-true, ltb-true, not-true, not-false}
 use Rattle.rules_walks.proofs.laws.Pick.{both3}
 use Rattle.rules_sessions.specs.Line.{all_digits, line_ok}
 use Rattle.rules_traces.specs.Reader.{line_at, another_line, ended_at, whole_line}
-
--- past its end a text has no 0A
-pub no_end : (text : List ℕ) (at : ℕ) → (length text ≡ at → ⊥) → length text ≤ at → false ≡ ended_at text at
-unfolding ended_at
-no_end text at n l = rw (ne_eqb (length text) at n, get_or-eq_default text 0 {n = at} l)
 
 module _ (text : List ℕ) (k : ℕ) where
   -- the part of the text that a line is

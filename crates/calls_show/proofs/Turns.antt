@@ -15,13 +15,11 @@ use Rattle.rules_walks.proofs.laws.Held.{held_stop, held_end}
 use Rattle.rules_numbers.specs.Bytes.{word_at}
 use Rattle.rules_tables.specs.Frame.{Table, field_at}
 use Rattle.rules_tables.specs.declared.Shape.{Shape}
-use Rattle.rules_tables.specs.Ids.{elements}
 use Rattle.rules_store.specs.Word.{Store, put_chart_state, put_value}
 use Rattle.rules_sessions.specs.Command.{long_at}
 use Rattle.rules_traces.specs.declared.Entry.{Entry}
-use Rattle.rules_traces.specs.Reader.{another_line, whole_line, frame_at, entry_in, right_frame, right_kind, known_entry, entry_at, readable, shown_of, show_entry, shown_after}
-use Rattle.calls_show.specs.declared.show.Said.{Said}
-use Rattle.calls_show.specs.declared.show.Said.TheVariants.{Known, Nothing}
+use Rattle.rules_traces.specs.Reader.{another_line, whole_line, frame_at, entry_in, right_frame, known_entry, entry_at, readable, shown_of, show_entry, shown_after}
+use Rattle.std.specs.Prelude.{Option, Some, None}
 use Rattle.calls_show.specs.Said.{Says}
 use Rattle.calls_show.proofs.Lines.{whole_long}
 
@@ -30,33 +28,23 @@ pub value_at : (F : List ℕ) → word_at F 6 ≡ long_at F 2
 unfolding word_at long_at field_at
 value_at F = refl
 
--- ---- an entry of a block that there is
-module _ (T : Table) (S : Shape) (e : Entry) {n : ℕ} (many : n ≡ elements S) where
-  pub of_block : e.block < n → {r : Bool} → r ≡ right_kind T S e → r ≡ known_entry T S e
-  unfolding known_entry
-  of_block l u = let h : e.block < elements S = rw many at l in rw (lt-ltb e.block (elements S) h) u
-
-  pub of_none : n ≤ e.block → false ≡ known_entry T S e
-  unfolding known_entry
-  of_none l = let h : elements S ≤ e.block = rw many at l in rw (le-ltb e.block (elements S) h)
-
 -- ---- what a line says, in the order of the tests
 module _ (T : Table) (S : Shape) (text : List ℕ) (k : ℕ) where
-  nothing : readable T S text k ≡ false → Says T S text k Nothing
+  nothing : readable T S text k ≡ false → Says T S text k None
   nothing e = record { is = rw e; narrow = tt }
 
   module _ {a : Bool} (there : a ≡ another_line text k) where
-    pub said_none : not a ≡ true → Says T S text k Nothing
+    pub said_none : not a ≡ true → Says T S text k None
     unfolding readable
     said_none n = nothing (rw (← there, not-true a n))
 
     module _ (is-there : not a ≡ false) {b : Bool} (whole : b ≡ whole_line text k) where
-      pub said_broken : not b ≡ true → Says T S text k Nothing
+      pub said_broken : not b ≡ true → Says T S text k None
       unfolding readable
       said_broken n = nothing (rw (← there, not-false a is-there, ← whole, not-true b n))
 
       module _ (is_whole : not b ≡ false) {F : List ℕ} (frame : F ≡ frame_at text k) {d : Bool} (right : d ≡ right_frame F) where
-        pub said_wrong : not d ≡ true → Says T S text k Nothing
+        pub said_wrong : not d ≡ true → Says T S text k None
         unfolding readable
         said_wrong n = nothing (rw (← there, not-false a is-there, ← whole, not-false b is_whole, ← frame, ← right, not-true d n))
 
@@ -69,10 +57,10 @@ module _ (T : Table) (S : Shape) (text : List ℕ) (k : ℕ) where
           unfolding readable
           reads = rw (tells, ← there, not-false a is-there, ← whole, not-false b is_whole, ← frame, ← right, not-false d is_right) (sym known)
 
-          pub said_unknown : g ≡ false → Says T S text k Nothing
+          pub said_unknown : g ≡ false → Says T S text k None
           said_unknown n = nothing (reads ∙ n)
 
-          pub said_known : g ≡ true → Says T S text k (Known e)
+          pub said_known : g ≡ true → Says T S text k (Some e)
           said_known n = record { is = rw (reads ∙ n, tells); narrow = (entry.1, entry.2) }
 
 -- ---- what was said
@@ -82,19 +70,19 @@ readable_whole T S text k e =
     (both3 (another_line text k) (whole_line text k) (both (right_frame (frame_at text k)) (known_entry T S (entry_at text k))) e).1
 
 module _ (T : Table) (S : Shape) (text : List ℕ) (k : ℕ) where
-  told : (b : Bool) (x e : Entry) → Known e ≡ pick b (Known x) Nothing → (b ≡ true) × (e ≡ x)
+  told : (b : Bool) (x e : Entry) → Some e ≡ pick b (Some x) None → (b ≡ true) × (e ≡ x)
   told true x e q = (refl, cc)
   told false x e q = absurd (let z : ◌≡◌ {A = ℕ} 0 1 = cc in omega arith)
 
-  untold : (b : Bool) (x : Entry) → Nothing ≡ pick b (Known x) Nothing → b ≡ false
+  untold : (b : Bool) (x : Entry) → None ≡ pick b (Some x) None → b ≡ false
   untold true x q = absurd (let z : ◌≡◌ {A = ℕ} 0 1 = cc in omega arith)
   untold false x q = refl
 
-  module _ {r : Said} (said : Says T S text k r) where
-    pub says_nothing : r ≡ Nothing → readable T S text k ≡ false
+  module _ {r : Option Entry} (said : Says T S text k r) where
+    pub says_nothing : r ≡ None → readable T S text k ≡ false
     says_nothing e = untold (readable T S text k) (entry_at text k) (sym e ∙ said.is)
 
-    module _ {e : Entry} (known : r ≡ Known e) where
+    module _ {e : Entry} (known : r ≡ Some e) where
       pub says_readable : readable T S text k ≡ true
       says_readable = (told (readable T S text k) (entry_at text k) e (sym known ∙ said.is)).0
 

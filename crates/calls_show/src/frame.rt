@@ -24,13 +24,10 @@ pub fn entry_in(frame: &[u8]) -> Entry
 }
 
 // 84, and e zero.
+#[tactic(auto, unfolding(rules_traces::specs::Reader::right_frame))]
 pub fn right_frame(frame: &[u8]) -> bool
     requires { 0 < frames_of frame.now }
     ensures { result ≡ right_frame frame.now }
 {
-    if kind(frame, 0) == TRACE {
-        field(frame, 0, 4) == 0
-    } else {
-        false
-    }
+    kind(frame, 0) == TRACE && field(frame, 0, 4) == 0
 }

@@ -15,11 +15,11 @@ fn line_at(text: &[u8], k: usize) -> &[u8]
     ensures { result.now ≡ line_at text.now k }
 {
     let at = STRIDE * k;
-    let end = at + DIGITS;
-    &text[at..end]
+    &text[at..at + DIGITS]
 }
 
 // There is a line k.
+#[tactic(auto, unfolding(rules_traces::specs::Reader::another_line))]
 pub fn another_line(text: &[u8], k: usize) -> bool
     requires { 25 * k ≤ length text.now + 1 }
     ensures { result ≡ another_line text.now k }
@@ -28,17 +28,11 @@ pub fn another_line(text: &[u8], k: usize) -> bool
 }
 
 // A line ends at `at`: with the text, or by 0A.
+#[tactic(auto, unfolding(rules_traces::specs::Reader::ended_at))]
 fn ended_at(text: &[u8], at: usize) -> bool
     ensures { result ≡ ended_at text.now at }
 {
-    if text.len() == at {
-        return true;
-    }
-    if at < text.len() {
-        text[at] == b'\n'
-    } else {
-        false
-    }
+    text.len() == at || at < text.len() && text[at] == b'\n'
 }
 
 // Line k has 24 digits and its end.
@@ -50,10 +44,7 @@ pub fn whole_line(text: &[u8], k: usize) -> bool
     if text.len() - at < DIGITS {
         return false;
     }
-    if !all_digits(line_at(text, k)) {
-        return false;
-    }
-    ended_at(text, at + DIGITS)
+    all_digits(line_at(text, k)) && ended_at(text, at + DIGITS)
 }
 
 // The frame of line k.

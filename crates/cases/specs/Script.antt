@@ -3,8 +3,7 @@ use Rattle.std.specs.Prelude.{List, [], ◌∷◌, ℕ}
 use Rattle.rules_tables.specs.Judge.{Verdict, shape_of}
 use Rattle.rules_store.specs.Word.{now_of}
 use Rattle.rules_calls.specs.Run.{bytes}
-use Rattle.rules_calls.specs.declared.Answer.{Answer}
-use Rattle.rules_calls.specs.Answer.{number_of, frame_of, moves_of, bytes_of, stop_of, untrue_of}
+use Rattle.rules_calls.specs.Answer.{number_of, frame_of, moves_of, bytes_of, stop_of, untrue_of, Answer}
 use Rattle.rules_calls.specs.Public.{Call, store_of, answer_of, run_moves}
 
 -- refusal, frame, moves, stop number, bytes, untrue steps

@@ -7,35 +7,19 @@ use calls::{advance, arrival, load, run};
 use numbers::bytes::word_at;
 use numbers::operation::outcome_words;
 use numbers::word::to_word;
-use rules_calls::Answer;
+use rules_calls::{Answer, Answered, Outcome};
 use store_words::word::{due_flag, due_time, next_due, put_untrue, untrue_count};
 
 // ---- The tables
 
-// Byte j of a frame.
-fn byte_of(f: Frame, j: usize) -> u8 {
-    match j {
-        0 => f.0,
-        1 => f.1,
-        2 => high(f.2),
-        3 => low(f.2),
-        4 => high(f.3),
-        5 => low(f.3),
-        6 => high(f.4),
-        7 => low(f.4),
-        8 => high(f.5),
-        9 => low(f.5),
-        10 => high(f.6),
-        _ => low(f.6),
-    }
-}
-
-fn high(n: u16) -> u8 {
-    (n / 256) as u8
-}
-
-fn low(n: u16) -> u8 {
-    (n % 256) as u8
+// The bytes of a frame.
+fn bytes_of(f: Frame) -> [u8; 12] {
+    let [a, b] = f.2.to_be_bytes();
+    let [c, d] = f.3.to_be_bytes();
+    let [e, g] = f.4.to_be_bytes();
+    let [h, i] = f.5.to_be_bytes();
+    let [j, k] = f.6.to_be_bytes();
+    [f.0, f.1, a, b, c, d, e, g, h, i, j, k]
 }
 
 // The bytes of all frames, one after another.
@@ -43,10 +27,8 @@ fn tables() -> [u8; 768]
     ensures { length result ≡ 768 }
 {
     let mut t = [0u8; 768];
-    let mut i = 0;
-    while i < 768 {
-        t[i] = byte_of(frame_at(i / 12), i % 12);
-        i += 1;
+    for i in 0..64 {
+        t[12 * i..12 * i + 12].copy_from_slice(&bytes_of(frame_at(i)));
     }
     t
 }
@@ -62,8 +44,7 @@ fn run_from(t: &[u8], store: &mut [u32], out: &mut [u8], call: Call) -> Answer {
 // Makes a call. Where there is none to make, the answer is still that of the call before.
 fn make(t: &[u8], store: &mut [u32], out: &mut [u8], call: Call, before: Answer) -> Answer {
     let value = [call.2; 1];
-    let what = call.0;
-    match what {
+    match call.0 {
         0 => before,
         1 => load(t, store),
         2 => advance(t, store, call.1),
@@ -85,11 +66,9 @@ fn make_all(
 ) -> Answer
     requires { to ≤ 35 }
 {
-    let mut i = from;
-    let mut answer = Answer::Done;
-    while i < to {
+    let mut answer: Answer = Ok(Outcome::Done);
+    for i in from..to {
         answer = make(t, store, out, call_at(i), answer);
-        i += 1;
     }
     make(t, store, out, own, answer)
 }
@@ -167,8 +146,7 @@ fn outcome_on(t: &[u8], row: Row) -> Six
         row.5,
         Call(row.6, row.7, row.8),
     );
-    let asked = row.0;
-    match asked {
+    match row.0 {
         0 => answered(answer),
         1 => recorded(&out),
         2 => due(&store),
@@ -184,8 +162,7 @@ pub fn outcome(row: Row) -> Six
         return result(row.6, row.7, row.8);
     }
     let t = tables();
-    let table = row.1;
-    match table {
+    match row.1 {
         0 => outcome_on(&t[..300], row),
         1 => outcome_on(&t[..312], row),
         2 => outcome_on(&t[312..468], row),

@@ -119,13 +119,14 @@ const CALLS: [Call; 35] = [
 ];
 
 // What comes out of a case: the six numbers of an answer (refusal, frame, moves, stop number, bytes, untrue steps), or up to five words, and zeros.
-#[derive(Clone, Copy)]
+#[derive(Clone, Copy, PartialEq, Eq)]
 pub struct Six(pub u64, pub u64, pub u64, pub u64, pub u64, pub u64);
 
 // What is asked (0 the answer of the case's own call, 1 the record that it wrote, 2 due flag and time of element 1 and the next due time, 3 the untrue steps
 // that it tells and word 11, 4 the result of an operation and whether it is true),
 // the table (0 the worked one, 1 with its last frame twice, 2 the delay's, 3 that of two delays, 4 the prompt one's), the words of the store, the bytes of output, from which to which of
 // CALLS come before; the case's own call, or the operation with its two words; and the six numbers that must come out.
+// Its columns stay numbered: a row is a line of the table below, and with names it would be seventeen.
 #[derive(Clone, Copy)]
 pub struct Row(
     pub usize,

@@ -2,10 +2,10 @@
 #![tactic(auto)]
 
 ghost use Rattle.std.specs.Prelude.{◌≡◌, ◌<◌, get_or};
-ghost use Rattle.rules_walks.specs.Pick.{pick};
 ghost use Rattle.cases_numbers.specs.Rows.{rows, none, answers, answered};
 
 // What is asked (0 an operation, 1 a DT's ticks), the operation's number, two words, the age, what must come out, and 1 where that is the true one.
+// Its columns stay numbered: a row is a line of the table below, and with names it would be nine.
 #[derive(Clone, Copy)]
 pub struct Row(
     pub usize,
@@ -51,13 +51,11 @@ const ROWS: [Row; 26] = [
 ];
 
 fn main() {
-    let mut i = 0;
-    while i < 26 {
+    for i in 0..26 {
         let row = row_at(i);
         let told = answer(row);
         check::expect(told.0 == row.5);
         check::expect(told.1 == row.6);
-        i += 1;
     }
     bytes();
 }
@@ -76,13 +74,7 @@ fn operated(op: usize, b: u32, c: u32, age: u32) -> Told
     ensures { result ≡ answers 0 op b c age }
 {
     let told = numbers::operation::outcome_words(op, b, c, age);
-    Told(numbers::word::to_word(told.result), one_if(told.is_true))
-}
-
-fn one_if(is_true: bool) -> u32
-    ensures { result ≡ pick is_true 1 0 }
-{
-    if is_true { 1 } else { 0 }
+    Told(numbers::word::to_word(told.result), u32::from(told.is_true))
 }
 
 // The code's answer to a case.
@@ -90,8 +82,7 @@ fn answer(row: Row) -> Told
     requires { row.4 < 2147483648 }
     ensures { result ≡ answered row }
 {
-    let what = row.0;
-    match what {
+    match row.0 {
         0 => operated(row.1, row.2, row.3, row.4),
         _ => Told(numbers::word::ticks(row.2), 1),
     }

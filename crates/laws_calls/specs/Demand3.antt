@@ -2,8 +2,7 @@
 use Rattle.std.specs.Prelude.{◌≡◌, List, ◌++◌, ℕ, ◌≤◌, length}
 use Rattle.std.proofs.lemmas.List.Edits.{sets}
 use Rattle.rules_tables.specs.Judge.{shape_of}
-use Rattle.rules_calls.specs.declared.Answer.{Answer}
-use Rattle.rules_calls.specs.Answer.{bytes_of}
+use Rattle.rules_calls.specs.Answer.{bytes_of, Answer}
 use Rattle.rules_log.specs.Log.{Log}
 use Rattle.rules_log.specs.Origin.{Begun, records_of}
 

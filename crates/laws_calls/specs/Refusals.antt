@@ -1,7 +1,7 @@
 -- That nothing refuses a call.
 use Rattle.std.specs.Prelude.{◌≡◌, ℕ}
 use Rattle.rules_tables.specs.Judge.{Verdict, accepted}
-use Rattle.rules_calls.specs.declared.Answer.{Answer}
+use Rattle.rules_calls.specs.Answer.{Answer}
 
 -- ---- a load that is done was not refused
 pub record Accepting (v : Verdict) (q : ℕ) : Type 0 where

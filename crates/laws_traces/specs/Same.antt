@@ -2,8 +2,7 @@
 use Rattle.std.specs.Prelude.{ℕ, ◌≡◌, List, eqb}
 use Rattle.rules_walks.specs.Pick.{pick}
 use Rattle.rules_store.specs.Word.{Store}
-use Rattle.rules_calls.specs.declared.Answer.{Answer}
-use Rattle.rules_calls.specs.Answer.{number_of, frame_of, moves_of, bytes_of, stop_of}
+use Rattle.rules_calls.specs.Answer.{number_of, frame_of, moves_of, bytes_of, stop_of, Answer}
 
 -- a is the answer of the run, b that of the traced one: they are refused alike, or make the same moves; where the traced one stopped with 4, no trace room, the
 -- other stops with 2, since it has the moves that were made for its budget

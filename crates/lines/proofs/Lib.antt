@@ -1,3 +1,4 @@
 pub mod laws
 mod Reading
+mod Walking
 mod Printing

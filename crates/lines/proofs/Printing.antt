@@ -4,7 +4,7 @@ use mathlib.Core.List.{List, [], ◌∷◌}
 use Prim.Native.Nat.{ℕ, ◌+◌, ◌*◌, ◌<◌}
 use native.Mathlib.Omega.{arith}
 use lib.ListN.{length, get_or, set, take, length-take}
-use lib.Seq.{sets, take_all}
+use lib.Seq.{sets}
 use Rattle.rules_numbers.proofs.laws.Sets.{and_then_lem}
 use Rattle.rules_sessions.specs.Text.{pair, digits, line_of}
 use Rattle.rules_sessions.proofs.laws.Text.{digits_length, digits_more}
@@ -21,9 +21,6 @@ pair_more B t₀ t t' at i p h e q u =
   where
     short : 2 * length (take i B) ≡ 2 * i
     short = simp length-take (omega arith)
-
-pub digits_all : (B t₀ t : List ℕ) (at i : ℕ) → length B ≡ i → t ≡ sets t₀ at (digits (take i B)) → t ≡ sets t₀ at (digits B)
-digits_all B t₀ t at i e q = q ∙ ap (λ (l : List ℕ). sets t₀ at (digits l)) (take_all i B (omega arith))
 
 -- and the end of the line
 pub line_ended : (B t₀ t t' : List ℕ) (at p : ℕ) → t ≡ sets t₀ at (digits B) → p ≡ at + 2 * length B → t' ≡ set t p 10 → t' ≡ sets t₀ at (line_of B)

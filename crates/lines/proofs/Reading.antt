@@ -4,7 +4,6 @@ use mathlib.Core.List.{List, [], ◌∷◌, ◌++◌}
 use mathlib.Core.Bool.{true, false}
 use mathlib.Core.Logic.{⊎_elim}
 use Prim.Native.Nat.{ℕ, zero, suc, ◌+◌, ◌*◌, ◌-◌, ◌≤◌, ◌<◌}
-use native.Mathlib.Nat.{le_of_suc-le-suc, not-suc-le-zero}
 use native.Mathlib.Numerals.{add-one}
 use native.Mathlib.Omega.{arith}
 use lib.Dec.{leb}
@@ -15,12 +14,6 @@ use Rattle.rules_walks.proofs.laws.Pick.{both_true, both_false, either_false, cl
 use Rattle.numbers.specs.Bounded.{Bounded}
 use Rattle.rules_numbers.proofs.laws.Sets.{and_then_lem}
 use Rattle.rules_sessions.specs.Line.{is_digit, digit_value, byte_of, bytes_to}
-
--- an element that is there does not depend on the default
-pub any_default : (l : List ℕ) (i a b : ℕ) → i < length l → get_or l i a ≡ get_or l i b
-any_default [] i a b h = absurd (not-suc-le-zero h)
-any_default (x ∷ l) zero a b h = refl
-any_default (x ∷ l) (suc i) a b h = any_default l i a b (le_of_suc-le-suc h)
 
 -- ---- a digit
 module _ (c : ℕ) where
@@ -47,13 +40,13 @@ module _ (c : ℕ) where
     high_to h = leb-true c 70 (digit_high h (high_from h) ∙ e)
 
     -- what it counts, from its number in the character set
-    pub low_value : {w : ℕ} → Bounded 256 c w → c ≤ 57 → Bounded 16 (digit_value c) (w - 48)
+    pub low_value : {w : ℕ} → w ≡ c - 48 → c ≤ 57 → Bounded 16 (digit_value c) w
     unfolding digit_value
-    low_value b h = let f = low_from h in let q = b.is in record { is = rw (le-leb c 57 h) (ap (λ (n : ℕ). n - 48) q); small = omega arith }
+    low_value e h = let f = low_from h in record { is = rw (le-leb c 57 h) e; small = omega arith }
 
-    pub high_value : {w : ℕ} → Bounded 256 c w → 57 < c → Bounded 16 (digit_value c) (w - 55)
+    pub high_value : {w : ℕ} → w ≡ c - 65 → 57 < c → Bounded 16 (digit_value c) (w + 10)
     unfolding digit_value
-    high_value b h = let f = high_to h in let q = b.is in record { is = rw (lt-leb c 57 h) (ap (λ (n : ℕ). n - 55) q); small = omega arith }
+    high_value e h = let f = high_to h in let g = high_from h in record { is = rw (lt-leb c 57 h) (omega arith); small = omega arith }
 
 -- ---- the frame of a line
 module _ (L : List ℕ) where

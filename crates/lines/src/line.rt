@@ -4,26 +4,13 @@ ghost use Rattle.std.proofs.lemmas.List.Edits.{sets};
 ghost use Rattle.numbers.specs.Bounded.{Bounded};
 ghost use Rattle.rules_sessions.specs.Line.{is_digit, digit_value, all_digits, line_ok as «line_ok», byte_of, line_frame, opens as «opens_at»};
 
-use numbers::bytes::wide;
-
 // A digit, 0 to 9 or A to F.
+#[tactic(auto, unfolding(rules_sessions::specs::Line::is_digit))]
 fn is_digit(c: u8) -> bool
     ensures { result ≡ is_digit c }
 {
-    if c <= b'9' {
-        return b'0' <= c;
-    }
-    if c < b'A' {
-        return false;
-    }
-    c <= b'F'
+    matches!(c, b'0'..=b'9' | b'A'..=b'F')
 }
-
-// What a digit has over what it counts: 0 counts nothing.
-const ZERO: usize = b'0' as usize;
-
-// What a letter has over what it counts: A counts ten.
-const TEN: usize = b'A' as usize - 10;
 
 // What a digit counts.
 fn digit_value(c: u8) -> usize
@@ -31,9 +18,10 @@ fn digit_value(c: u8) -> usize
     ensures { Bounded 16 (digit_value c) result }
 {
     if c <= b'9' {
-        return wide(c) - ZERO;
+        usize::from(c - b'0')
+    } else {
+        usize::from(c - b'A') + 10
     }
-    wide(c) - TEN
 }
 
 // The character at i; past the end of the line, a zero.
@@ -46,32 +34,16 @@ fn character(line: &[u8], i: usize) -> u8
 pub fn all_digits(line: &[u8]) -> bool
     ensures { result ≡ all_digits line.now }
 {
-    let n = line.len();
-    let mut i = 0;
-    while i < n {
-        if !is_digit(character(line, i)) {
-            return false;
-        }
-        i += 1;
-    }
-    true
+    line.iter().all(|c| is_digit(*c))
 }
 
 // The line has the form of a frame.
+#[tactic(auto, unfolding(rules_sessions::specs::Line::line_ok))]
 pub fn line_ok(line: &[u8]) -> bool
     ensures { result ≡ «line_ok» line.now }
 {
     let n = line.len();
-    if n < 2 {
-        return false;
-    }
-    if 24 < n {
-        return false;
-    }
-    if n % 2 != 0 {
-        return false;
-    }
-    all_digits(line)
+    2 <= n && n <= 24 && n % 2 == 0 && all_digits(line)
 }
 
 // Byte k of the line's frame.
@@ -89,26 +61,15 @@ pub fn put_frame(line: &[u8], t: &mut [u8], at: usize)
     requires { («line_ok» line.now ≡ true) × (at + 12 ≤ length t.old) }
     ensures { t.new ≡ sets t.old at (line_frame line.now) }
 {
-    let mut k = 0;
-    while k < 12 {
+    for k in 0..12 {
         t[at + k] = byte_of(line, k);
-        k += 1;
     }
 }
 
 // The line begins 80 to 83: it ends the table, whatever follows.
+#[tactic(auto, unfolding(rules_sessions::specs::Line::opens))]
 pub fn opens(line: &[u8]) -> bool
     ensures { result ≡ «opens_at» line.now }
 {
-    if line.len() < 2 {
-        return false;
-    }
-    if character(line, 0) != b'8' {
-        return false;
-    }
-    let second = character(line, 1);
-    if second < b'0' {
-        return false;
-    }
-    second <= b'3'
+    matches!(line, [b'8', b'0'..=b'3', ..])
 }

@@ -1,9 +1,18 @@
-// A part of a buffer.
-ghost use Rattle.std.specs.Prelude.{◌≡◌, take};
+// Parts of buffers.
+ghost use Rattle.std.specs.Prelude.{◌≡◌, take, set};
 
-// The first n bytes, or all there are.
-pub fn stretch(s: &[u8], n: usize) -> &[u8]
+// The first n elements, or all there are.
+pub fn stretch<T>(s: &[T], n: usize) -> &[T]
     ensures { result.now ≡ take n s.now }
 {
-    if n <= s.len() { &s[0..n] } else { s }
+    &s[..n.min(s.len())]
+}
+
+// Past the end nothing is written.
+pub fn put_at<T: Copy>(s: &mut [T], at: usize, x: T)
+    ensures { s.new ≡ set s.old at x }
+{
+    if at < s.len() {
+        s[at] = x;
+    }
 }

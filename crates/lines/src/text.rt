@@ -7,6 +7,7 @@ ghost use Rattle.rules_sessions.specs.Text.{glyph as «glyph_of», pair, digits,
 const TEN: u8 = b'A' - 10;
 
 // The digit that counts d.
+#[tactic(auto, unfolding(rules_sessions::specs::Text::glyph))]
 fn glyph(d: u8) -> u8
     requires { d < 16 }
     ensures { result ≡ «glyph_of» d }
@@ -15,6 +16,7 @@ fn glyph(d: u8) -> u8
 }
 
 // The two digits of a byte.
+#[tactic(auto, unfolding(rules_sessions::specs::Text::pair))]
 fn put_pair(text: &mut [u8], at: usize, b: u8)
     requires { at + 2 ≤ length text.old }
     ensures { text.new ≡ sets text.old at (pair b) }
@@ -28,11 +30,8 @@ fn put_digits(bytes: &[u8], text: &mut [u8], at: usize)
     requires { at + 2 * length bytes.now ≤ length text.old }
     ensures { text.new ≡ sets text.old at (digits bytes.now) }
 {
-    let n = bytes.len();
-    let mut i = 0;
-    while i < n {
+    for i in 0..bytes.len() {
         put_pair(text, at + 2 * i, bytes[i]);
-        i += 1;
     }
 }
 

@@ -15,8 +15,7 @@ use Rattle.rules_tables.specs.Ids.{first_transition, first_action, transitions, 
 use Rattle.rules_tables.specs.Owned.{any, belongs, nth}
 use Rattle.rules_tables.specs.Actions.{action_of, action_number}
 use Rattle.rules_moves.specs.Chart.{enabled, transition_of}
-use Rattle.table_parts.specs.declared.Found.{Found}
-use Rattle.table_parts.specs.declared.Found.TheVariants.{One, Missing}
+use Rattle.std.specs.Prelude.{Option, Some, None}
 use Rattle.table_parts.specs.Found.{found_of}
 use Rattle.table_parts.proofs.laws.Found.{was_one, was_missing}
 use Rattle.table_index.specs.Leads.{Leads, or_end}
@@ -27,12 +26,12 @@ use Rattle.table_index.proofs.laws.Nth.{nth_at, nth_past}
 use Rattle.table_index.proofs.laws.Actions.{action_nth, action_more}
 
 -- the number of an action that was looked for
-module _ (T : List ℕ) (S : Shape) (q k : ℕ) {w : ℕ} {f : Found} where
-  pub number_missing : w ≡ k → f ≡ found_of (action_of T S q w) → f ≡ Missing → ◌≡◌ {A = ℕ} 0 (action_number T S q k)
+module _ (T : List ℕ) (S : Shape) (q k : ℕ) {w : ℕ} {f : Option ℕ} where
+  pub number_missing : w ≡ k → f ≡ found_of (action_of T S q w) → f ≡ None → ◌≡◌ {A = ℕ} 0 (action_number T S q k)
   unfolding action_number
   number_missing a p m = rw (← a, was_missing (action_of T S q w) (sym p ∙ m))
 
-  pub number_one : (j : ℕ) → w ≡ k → f ≡ found_of (action_of T S q w) → f ≡ One j → k ≡ action_number T S q k
+  pub number_one : (j : ℕ) → w ≡ k → f ≡ found_of (action_of T S q w) → f ≡ Some j → k ≡ action_number T S q k
   unfolding action_number
   number_one j a p m = sym a ∙ rw (← a, was_one (action_of T S q w) j (sym p ∙ m))
 
@@ -95,8 +94,8 @@ module _ (T : List ℕ) (S : Shape) (s : List ℕ) (q event live : ℕ) where
           rest = w.rest ∙ first_skip (enabled T S s q event live) j (transitions S) there (sym answer ∙ e) ∙ leads_first l (enabled T S s q event live) elsewhere;
         }
 
-    pub search_hits : r ≡ true → One j ≡ found_of (transition_of T S s q event live)
+    pub search_hits : r ≡ true → Some j ≡ found_of (transition_of T S s q event live)
     search_hits e = sym (ap found_of (w.rest ∙ first_hit (enabled T S s q event live) j (transitions S) there (sym answer ∙ e)))
 
-  pub search_ends : {j : ℕ} → Searching j → transitions S ≤ j → Missing ≡ found_of (transition_of T S s q event live)
+  pub search_ends : {j : ℕ} → Searching j → transitions S ≤ j → None ≡ found_of (transition_of T S s q event live)
   search_ends {j} w h = sym (ap found_of (w.rest ∙ first_none (enabled T S s q event live) j (transitions S) h))

@@ -1,7 +1,6 @@
 // The guards of a transition: which one a frame has, and whether it holds.
 ghost use Rattle.std.specs.Prelude.{◌≡◌, ℕ, ◌<◌};
 ghost use Rattle.rules_tables.specs.Frame.{frames_of};
-ghost use Rattle.rules_tables.specs.Good.{Good};
 ghost use Rattle.rules_tables.specs.Ids.{transition_frame};
 ghost use Rattle.store_words.specs.Small.{Small};
 ghost use Rattle.rules_moves.specs.Chart.{guard_holds};
@@ -11,6 +10,7 @@ ghost use Rattle.moves_chart.specs.Narrow.{Narrow};
 use numbers::word::to_signed;
 use rules_moves::Guard;
 use rules_tables::Shape;
+use store_words::network::Network;
 use store_words::word::value_of;
 use table_frames::frame::{field, flag};
 
@@ -43,11 +43,12 @@ fn signed_value(store: &[u32], shape: Shape, v: usize) -> i32
 }
 
 // The guard of the transition in frame f holds. One that holds always has no variables, so that none is read.
-pub fn guard_holds(t: &[u8], store: &[u32], shape: Shape, f: usize) -> bool
-    requires { Good t.now shape × (f < frames_of t.now) }
-    ensures { (j : ℕ) → f ≡ transition_frame shape j → result ≡ guard_holds t.now shape store.now j }
+pub fn guard_holds(net: &Network, store: &[u32], f: usize) -> bool
+    requires { f < frames_of net.now.table.now }
+    ensures { (j : ℕ) → f ≡ transition_frame net.now.shape j → result ≡ guard_holds net.now.table.now net.now.shape store.now j }
 {
-    let guard = guard_at(t, f);
+    let shape = net.shape;
+    let guard = guard_at(net.table, f);
     match guard {
         Guard::Always => true,
         Guard::Equals(d, e) => signed_value(store, shape, d) == signed_value(store, shape, e),

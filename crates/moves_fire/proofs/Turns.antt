@@ -16,7 +16,7 @@ use Rattle.rules_moves.specs.Fire.{mark, connect, copy_if}
 use Rattle.table_index.specs.Leads.{or_end}
 use Rattle.table_index.proofs.laws.Nth.{nth_at, nth_past}
 use Rattle.table_index.proofs.laws.Owned.{any_owner}
-use Rattle.table_parts.specs.declared.Found.TheVariants.{One, Missing}
+use Rattle.std.specs.Prelude.{Some, None}
 use Rattle.table_parts.specs.Found.{found_of}
 
 -- one event connection of the output
@@ -34,8 +34,8 @@ copy_take T S v j s s' b a q r u =
 
 -- a partner that was read
 module _ (T : List ℕ) (first n g x k : ℕ) {o m : ℕ} (e : o ≡ or_end n (nth T first n g x k)) (z : m ≡ n) where
-  pub partner_one : o < m → One o ≡ found_of (nth T first n g x k)
+  pub partner_one : o < m → Some o ≡ found_of (nth T first n g x k)
   partner_one l = sym (ap found_of (nth_at T first n g x k e (omega arith)))
 
-  pub partner_missing : m ≤ o → Missing ≡ found_of (nth T first n g x k)
+  pub partner_missing : m ≤ o → None ≡ found_of (nth T first n g x k)
   partner_missing l = sym (ap found_of (nth_past T first n g x k e (omega arith)))

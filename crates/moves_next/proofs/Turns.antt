@@ -21,8 +21,7 @@ use Rattle.rules_tables.specs.Lawful.{Lawful}
 use Rattle.rules_store.specs.Part.{count, input, buffered, just, also}
 use Rattle.rules_store.specs.Running.{idle, charts, stepped, entered, charting}
 use Rattle.rules_store.specs.Word.{current_event, running_of, put_running, value, put_value, birth_of}
-use Rattle.table_parts.specs.declared.Found.{Found}
-use Rattle.table_parts.specs.declared.Found.TheVariants.{One, Missing}
+use Rattle.std.specs.Prelude.{Option, Some, None}
 use Rattle.table_parts.specs.Found.{found_of}
 use Rattle.table_parts.proofs.laws.Found.{found_one, found_missing}
 use Rattle.store_words.proofs.laws.Running.{value_runs, untrue_runs}
@@ -31,8 +30,8 @@ use Rattle.rules_moves.specs.Carry.{voice, voice_of}
 use Rattle.rules_moves.specs.Fire.{fire}
 use Rattle.rules_moves.proofs.laws.Firing.{fire_leaves}
 use Rattle.rules_moves.specs.declared.Key.{Key}
-use Rattle.rules_moves.specs.declared.Best.{Best}
-use Rattle.rules_moves.specs.declared.Best.TheVariants.{At, Nothing as «NoEvent»}
+use Rattle.rules_moves.specs.Least.{Best}
+use Rattle.std.specs.Prelude.{Some, None}
 use Rattle.rules_moves.specs.Least.{least}
 use Rattle.rules_moves.specs.Chart.{transition_of, change, go_idle, element_of, state_of}
 use Rattle.rules_tables.specs.Actions.{action_of, action_number}
@@ -113,21 +112,21 @@ ended T S time r j s s' {s₁ = s₁} a b p u =
 
 -- ---- what comes next
 module _ {x : Best} (found : Best) (told : x ≡ found) where
-  pub event_one : (i : ℕ) (k : Key) → x ≡ At i k → Take i ≡ event_next found
+  pub event_one : (i : ℕ) (k : Key) → x ≡ Some (i, k) → Take i ≡ event_next found
   unfolding event_next
   event_one i k e = rw (sym told ∙ e)
 
-  pub event_missing : x ≡ «NoEvent» → Nothing ≡ event_next found
+  pub event_missing : x ≡ None → Nothing ≡ event_next found
   unfolding event_next
   event_missing e = rw (sym told ∙ e)
 
-module _ (T : List ℕ) (S : Shape) (s : List ℕ) (live : ℕ) {q event : ℕ} (state : q ≡ state_of s) (heard : event ≡ current_event s) {f : Found}
+module _ (T : List ℕ) (S : Shape) (s : List ℕ) (live : ℕ) {q event : ℕ} (state : q ≡ state_of s) (heard : event ≡ current_event s) {f : Option ℕ}
     (found : f ≡ found_of (transition_of T S s q event live)) where
-  pub chart_one : (j : ℕ) → f ≡ One j → Change j ≡ chart_next (transition_of T S s (state_of s) (current_event s) live)
+  pub chart_one : (j : ℕ) → f ≡ Some j → Change j ≡ chart_next (transition_of T S s (state_of s) (current_event s) live)
   unfolding chart_next
   chart_one j e = rw (← state, ← heard, found_one (transition_of T S s q event live) _ j found e)
 
-  pub chart_missing : f ≡ Missing → Idle ≡ chart_next (transition_of T S s (state_of s) (current_event s) live)
+  pub chart_missing : f ≡ None → Idle ≡ chart_next (transition_of T S s (state_of s) (current_event s) live)
   unfolding chart_next
   chart_missing e = rw (← state, ← heard, found_missing (transition_of T S s q event live) _ found e)
 
@@ -136,15 +135,15 @@ pub act_none : (T : List ℕ) (S : Shape) (r : Running) (s : List ℕ) → r.act
 unfolding act_next action_of
 act_none T S r s e = rw (eq-eqb r.action 0 e)
 
-module _ (T : List ℕ) (S : Shape) (r : Running) (s : List ℕ) {q k : ℕ} (state : q ≡ state_of s) (number : k ≡ r.action) {f : Found} (found : f ≡ found_of (action_of T S q k)) where
-  pub act_missing : f ≡ Missing → Back ≡ act_next T S r (action_of T S (state_of s) r.action)
+module _ (T : List ℕ) (S : Shape) (r : Running) (s : List ℕ) {q k : ℕ} (state : q ≡ state_of s) (number : k ≡ r.action) {f : Option ℕ} (found : f ≡ found_of (action_of T S q k)) where
+  pub act_missing : f ≡ None → Back ≡ act_next T S r (action_of T S (state_of s) r.action)
   unfolding act_next
   act_missing m = rw (← state, ← number, found_missing (action_of T S q k) _ found m)
 
-  pub act_in : (j : ℕ) → f ≡ One j → j < actions S
+  pub act_in : (j : ℕ) → f ≡ Some j → j < actions S
   act_in j m = action_below T S q k j (found_one (action_of T S q k) _ j found m)
 
-  module _ (j : ℕ) {g done n : ℕ} (one-is : f ≡ One j) (at : g ≡ action_frame S j) (made : done ≡ r.step) (many : n ≡ field_at T g 2) where
+  module _ (j : ℕ) {g done n : ℕ} (one-is : f ≡ Some j) (at : g ≡ action_frame S j) (made : done ≡ r.step) (many : n ≡ field_at T g 2) where
     is_one : action_of T S (state_of s) r.action ≡ one j
     is_one = rw (state, number) at (found_one (action_of T S q k) _ j found one-is)
 
@@ -241,3 +240,14 @@ module _ (T : List ℕ) (S : Shape) (time : ℕ) (n : Next) (s : List ℕ) where
   pub size_take : (i : ℕ) {z : ℕ} → n ≡ Take i → Sized T S i z → z ≡ size_by T S time n s
   unfolding size_by written_by
   size_take i e w = rw e (sym (w.bytes_are (birth_of S s i) time s))
+
+-- only an event that is taken writes
+pub size_other : (T : List ℕ) (S : Shape) (time : ℕ) (n : Next) (s : List ℕ) → ((i : ℕ) → n ≡ Take i → ⊥) → 0 ≡ size_by T S time n s
+unfolding size_by written_by
+size_other T S time (Take i) s h = absurd (h i refl)
+size_other T S time (Change j) s h = refl
+size_other T S time Idle s h = refl
+size_other T S time (Step j) s h = refl
+size_other T S time (End j) s h = refl
+size_other T S time Back s h = refl
+size_other T S time Nothing s h = refl

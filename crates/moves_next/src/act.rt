@@ -1,7 +1,6 @@
 // Moves 4 and 5: a step, and the end of an action.
 ghost use Rattle.std.specs.Prelude.{◌≡◌, ◌-◌, ◌<◌};
 ghost use Rattle.rules_tables.specs.Frame.{frames_of};
-ghost use Rattle.rules_tables.specs.Good.{Good};
 ghost use Rattle.rules_store.specs.Word.{running_of};
 ghost use Rattle.store_words.specs.Small.{Small};
 ghost use Rattle.rules_tables.specs.Ids.{actions as «actions_of», steps as «steps_of», step_frame};
@@ -11,7 +10,6 @@ ghost use Rattle.rules_tables.specs.Actions.{action_of};
 ghost use Rattle.rules_moves.specs.Chart.{state_of};
 ghost use Rattle.rules_walks.specs.Pick.{pick};
 ghost use Rattle.rules_moves.specs.Act.{step_outcome, untrue_step, count_untrue, one_step, step_move, event_of, end_move};
-ghost use Rattle.table_index.specs.Index.{Indexed};
 
 use moves_chart::{number_after, state_of};
 use moves_fire::fire_by;
@@ -21,13 +19,13 @@ use rules_moves::Voice;
 use rules_numbers::Outcome;
 use rules_store::Running;
 use rules_tables::Shape;
-use store_words::shape::{action_frame, step_frame};
+use store_words::network::Network;
 use store_words::word::{
     counted, put_entered, put_stepped, put_untrue, put_value, untrue_count, value_of,
 };
 use table_frames::frame::{field, flag};
 use table_frames::kind::{NONE, OF_OUTPUT};
-use table_index::index::SIZE;
+use table_index::indexed::IndexedNetwork;
 
 // What the operation of the step at frame f tells.
 fn step_outcome(t: &[u8], store: &[u32], shape: Shape, f: usize, age: u32) -> Outcome
@@ -70,15 +68,15 @@ fn one_step(t: &[u8], store: &mut [u32], shape: Shape, f: usize, age: u32) -> u3
 }
 
 // Step j is made. The answer is how many untrue steps that is.
-pub fn step(t: &[u8], store: &mut [u32], shape: Shape, time: u32, r: Running, j: usize) -> u32
-    requires { Good t.now shape × (j < steps_of shape) × (r.step < 4294967295) × (time < 2147483648) × (r ≡ running_of store.old) }
-    ensures { (store.new ≡ step_move t.now shape time r j store.old) × (result ≡ untrue_step t.now shape (step_frame shape j) (time - r.birth) store.old) }
+pub fn step(net: &Network, store: &mut [u32], time: u32, r: Running, j: usize) -> u32
+    requires { (j < steps_of net.now.shape) × (r.step < 4294967295) × (time < 2147483648) × (r ≡ running_of store.old) }
+    ensures { (store.new ≡ step_move net.now.table.now net.now.shape time r j store.old) × (result ≡ untrue_step net.now.table.now net.now.shape (step_frame net.now.shape j) (time - r.birth) store.old) }
 {
     let u = one_step(
-        t,
+        net.table,
         store,
-        shape,
-        step_frame(t, shape, j),
+        net.shape,
+        net.step_frame(j),
         since(time, r.birth),
     );
     put_stepped(store, r);
@@ -86,42 +84,26 @@ pub fn step(t: &[u8], store: &mut [u32], shape: Shape, time: u32, r: Running, j:
 }
 
 // The event of action j, if any, is fired. It is a basic element's, so it speaks by its own associations.
-fn fire_event(
-    t: &[u8],
-    ix: &[u16; SIZE],
-    store: &mut [u32],
-    shape: Shape,
-    j: usize,
-    birth: u32,
-    time: u32,
-)
-    requires { Good t.now shape × (j < actions_of shape) × Indexed t.now shape ix.now }
-    ensures { store.new ≡ fire_found t.now shape (event_of t.now shape j) birth time store.old }
+fn fire_event(ix: &IndexedNetwork, store: &mut [u32], j: usize, birth: u32, time: u32)
+    requires { j < actions_of ix.now.net.shape }
+    ensures { store.new ≡ fire_found ix.now.net.table.now ix.now.net.shape (event_of ix.now.net.table.now ix.now.net.shape j) birth time store.old }
 {
-    let o = field(t, action_frame(t, shape, j), 3);
+    let o = field(ix.net.table, ix.net.action_frame(j), 3);
     if o != NONE {
         let w = Voice {
             flag: OF_OUTPUT,
             event: o,
         };
-        fire_by(t, ix, store, shape, o, w, birth, time);
+        fire_by(ix, store, o, w, birth, time);
     }
 }
 
 // The steps of action j are done: its event is fired, and the next action comes.
-pub fn end(
-    t: &[u8],
-    ix: &[u16; SIZE],
-    store: &mut [u32],
-    shape: Shape,
-    time: u32,
-    r: Running,
-    j: usize,
-)
-    requires { Good t.now shape × (j < actions_of shape) × (action_of t.now shape (state_of store.old) r.action ≡ one j) × (r.action < 4294967295) × Indexed t.now shape ix.now × (r ≡ running_of store.old) }
-    ensures { store.new ≡ end_move t.now shape time (state_of store.old) r j store.old }
+pub fn end(ix: &IndexedNetwork, store: &mut [u32], time: u32, r: Running, j: usize)
+    requires { (j < actions_of ix.now.net.shape) × (action_of ix.now.net.table.now ix.now.net.shape (state_of store.old) r.action ≡ one j) × (r.action < 4294967295) × (r ≡ running_of store.old) }
+    ensures { store.new ≡ end_move ix.now.net.table.now ix.now.net.shape time (state_of store.old) r j store.old }
 {
-    let next = number_after(t, ix, shape, state_of(store), j, r.action);
-    fire_event(t, ix, store, shape, j, r.birth, time);
+    let next = number_after(ix, state_of(store), j, r.action);
+    fire_event(ix, store, j, r.birth, time);
     put_entered(store, r, next);
 }

@@ -26,8 +26,7 @@ use Rattle.rules_store.specs.Word.{value, put_value, buffer, due_flag, birth_of,
 use Rattle.rules_store.specs.Due.{put_due}
 use Rattle.rules_store.specs.Earliest.{NextKept}
 use Rattle.rules_store.proofs.laws.PutDue.{input_keeps}
-use Rattle.table_parts.specs.declared.Found.{Found}
-use Rattle.table_parts.specs.declared.Found.TheVariants.{One, Missing}
+use Rattle.std.specs.Prelude.{Option, Some, None}
 use Rattle.rules_tables.specs.Owned.{any, belongs, rank, nth, is_nth}
 use Rattle.table_parts.specs.Found.{found_of}
 use Rattle.table_parts.proofs.laws.Found.{found_one, found_missing}
@@ -46,7 +45,7 @@ use Rattle.rules_moves.proofs.laws.Taking.{fires_nothing}
 use Rattle.moves_take.proofs.laws.Sized.{sink_sized, others_sized}
 
 -- what a search among n frames found is one of them
-pub nth_in : (T : List ℕ) (first n g x k j : ℕ) {r : Found} → r ≡ found_of (nth T first n g x k) → r ≡ One j → j < n
+pub nth_in : (T : List ℕ) (first n g x k j : ℕ) {r : Option ℕ} → r ≡ found_of (nth T first n g x k) → r ≡ Some j → j < n
 nth_in T first n g x k j p m = let h = first_in (is_nth T first g x k) 0 n j (found_one (nth T first n g x k) _ j p m) in omega arith
 
 -- associations that speak, and the others, which do nothing
@@ -70,12 +69,12 @@ pub pass_idle : (T : List ℕ) (S : Shape) (i j : ℕ) → belongs T (first_asso
 unfolding pass
 pass_idle T S i j e s = choose_false _ _ _ (voiced T S i j e) ∙ sample_idle T S i j e s
 
-module _ (T : List ℕ) (S : Shape) (v : ℕ) (s s' : List ℕ) {r : Found} where
-  pub pass_none : r ≡ found_of (partner_variable T S v) → r ≡ Missing → s' ≡ s → s' ≡ pass_to S (partner_variable T S v) v s
+module _ (T : List ℕ) (S : Shape) (v : ℕ) (s s' : List ℕ) {r : Option ℕ} where
+  pub pass_none : r ≡ found_of (partner_variable T S v) → r ≡ None → s' ≡ s → s' ≡ pass_to S (partner_variable T S v) v s
   unfolding pass_to
   pass_none p m u = rw (found_missing (partner_variable T S v) _ p m) u
 
-  pub pass_one : (u : ℕ) {x : ℕ} → r ≡ found_of (partner_variable T S v) → r ≡ One u → x ≡ value S s v → s' ≡ put_value S u x s → s' ≡ pass_to S (partner_variable T S v) v s
+  pub pass_one : (u : ℕ) {x : ℕ} → r ≡ found_of (partner_variable T S v) → r ≡ Some u → x ≡ value S s v → s' ≡ put_value S u x s → s' ≡ pass_to S (partner_variable T S v) v s
   unfolding pass_to
   pass_one u p m a e = rw (found_one (partner_variable T S v) _ u p m, ← a) e
 
@@ -94,30 +93,30 @@ pub passed_end : (T : List ℕ) (S : Shape) (i j : ℕ) (s₀ s : List ℕ) → 
 passed_end T S i j s₀ s g p e = up_to_end _ j (associations S) s₀ s p e ∙ passed_together T S i g s₀
 
 -- a partner that was found is one of the table's
-pub partner_in : (T : List ℕ) (S : Shape) (v u : ℕ) {r : Found} → r ≡ found_of (partner_variable T S v) → r ≡ One u → u < variables S
+pub partner_in : (T : List ℕ) (S : Shape) (v u : ℕ) {r : Option ℕ} → r ≡ found_of (partner_variable T S v) → r ≡ Some u → u < variables S
 unfolding partner_variable
 partner_in T S v u p m = nth_in T _ (variables S) _ _ _ u p m
 
 -- the partner event speaks by event input i
-pub relay_voice : (T : List ℕ) (S : Shape) (i o : ℕ) {r : Found} → i < inputs S → flag_at T (input_owner T S i) ≡ 1 → r ≡ found_of (partner_output T S i) → r ≡ One o → voice of_input i ≡ voice_of T S o
+pub relay_voice : (T : List ℕ) (S : Shape) (i o : ℕ) {r : Option ℕ} → i < inputs S → flag_at T (input_owner T S i) ≡ 1 → r ≡ found_of (partner_output T S i) → r ≡ Some o → voice of_input i ≡ voice_of T S o
 relay_voice T S i o l e p q = sym (partner_voice T S i o l (found_one (partner_output T S i) _ o p q) e)
 
-module _ (T : List ℕ) (S : Shape) (i birth time : ℕ) (s s₁ s' : List ℕ) {r : Found} where
-  pub relay_none : s₁ ≡ passes T S i s → r ≡ found_of (partner_output T S i) → r ≡ Missing → s' ≡ s₁ → s' ≡ fire_found T S (partner_output T S i) birth time (passes T S i s)
+module _ (T : List ℕ) (S : Shape) (i birth time : ℕ) (s s₁ s' : List ℕ) {r : Option ℕ} where
+  pub relay_none : s₁ ≡ passes T S i s → r ≡ found_of (partner_output T S i) → r ≡ None → s' ≡ s₁ → s' ≡ fire_found T S (partner_output T S i) birth time (passes T S i s)
   unfolding fire_found
   relay_none a p m u = rw (found_missing (partner_output T S i) _ p m, ← a) u
 
-  pub relay_one : (o : ℕ) → s₁ ≡ passes T S i s → r ≡ found_of (partner_output T S i) → r ≡ One o → s' ≡ fire T S o birth time s₁
+  pub relay_one : (o : ℕ) → s₁ ≡ passes T S i s → r ≡ found_of (partner_output T S i) → r ≡ Some o → s' ≡ fire T S o birth time s₁
       → s' ≡ fire_found T S (partner_output T S i) birth time (passes T S i s)
   unfolding fire_found
   relay_one o a p m u = rw (found_one (partner_output T S i) _ o p m, ← a) u
 
-module _ (T : List ℕ) (S : Shape) (el : ℕ) (s : List ℕ) {r : Found} where
-  pub dt_none : r ≡ found_of (nth T (first_variable S) (variables S) any el 0) → r ≡ Missing → ◌≡◌ {A = ℕ} 0 (dt_of T S el s)
+module _ (T : List ℕ) (S : Shape) (el : ℕ) (s : List ℕ) {r : Option ℕ} where
+  pub dt_none : r ≡ found_of (nth T (first_variable S) (variables S) any el 0) → r ≡ None → ◌≡◌ {A = ℕ} 0 (dt_of T S el s)
   unfolding dt_of ticks_in
   dt_none p m = rw (found_missing (nth T (first_variable S) (variables S) any el 0) _ p m)
 
-  pub dt_one : (v x d : ℕ) → r ≡ found_of (nth T (first_variable S) (variables S) any el 0) → r ≡ One v → x ≡ value S s v → d ≡ ticks_of (signed x) → d ≡ dt_of T S el s
+  pub dt_one : (v x d : ℕ) → r ≡ found_of (nth T (first_variable S) (variables S) any el 0) → r ≡ Some v → x ≡ value S s v → d ≡ ticks_of (signed x) → d ≡ dt_of T S el s
   unfolding dt_of ticks_in
   dt_one v x d p m a u = rw (found_one (nth T (first_variable S) (variables S) any el 0) _ v p m, ← a) u
 

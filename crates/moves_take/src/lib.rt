@@ -5,14 +5,12 @@ ghost use Rattle.std.specs.Prelude.{◌≡◌, true, ◌+◌, ◌<◌, ◌≤◌
 ghost use Rattle.numbers.specs.Bounded.{Bounded};
 ghost use Rattle.rules_tables.specs.Kind.{interface, of_input};
 ghost use Rattle.rules_tables.specs.Frame.{flag_at};
-ghost use Rattle.rules_tables.specs.Good.{Good};
 ghost use Rattle.rules_tables.specs.Ids.{elements, inputs, variables, associations as «associations_of»};
 ghost use Rattle.store_words.specs.Small.{Small};
 ghost use Rattle.rules_store.specs.Word.{value, put_value, buffer};
 ghost use Rattle.rules_store.specs.Earliest.{NextKept};
 ghost use Rattle.rules_moves.specs.Partner.{input_owner, partner_output, partner_variable};
 ghost use Rattle.rules_moves.specs.Carry.{voice, speaks};
-ghost use Rattle.table_index.specs.Index.{Indexed};
 ghost use Rattle.rules_moves.specs.Take.{sample as «sample_at», samples, pass_to, pass as «pass_at», passes, fire_found, dt_of, started, start_stop, wake as «wake_of»};
 ghost use Rattle.rules_moves.specs.Record.{put_out};
 ghost use Rattle.moves_take.specs.Received.{Event, Received};
@@ -27,15 +25,14 @@ use rules_moves::Voice;
 use rules_store::Running;
 use rules_tables::Shape;
 use store_words::due::put_due;
-use store_words::shape::{association_frame, associations, variables as variables_of};
+use store_words::network::Network;
 use store_words::word::{
     buffer_of, due_flag, put_input_in, put_owner, put_running, put_value, value_of,
 };
 use table_frames::frame::field;
 use table_frames::kind::{BASIC, DELAY, INTERFACE, OF_INPUT, SINK};
-use table_index::index::SIZE;
-use table_index::read::{first_association, next_association};
-use table_parts::{ANY, Found, nth, rank};
+use table_index::indexed::IndexedNetwork;
+use table_parts::{ANY, nth, rank};
 
 // Input variable v gets value from buffer; the answer is that value.
 pub fn sample(store: &mut [u32], shape: Shape, v: usize) -> u32
@@ -48,109 +45,100 @@ pub fn sample(store: &mut [u32], shape: Shape, v: usize) -> u32
 }
 
 // Associated inputs get value from buffer.
-fn sample_all(t: &[u8], ix: &[u16; SIZE], store: &mut [u32], shape: Shape, i: usize)
-    requires { Good t.now shape × Indexed t.now shape ix.now }
-    ensures { store.new ≡ samples t.now shape i store.old }
+fn sample_all(ix: &IndexedNetwork, store: &mut [u32], i: usize)
+    ensures { store.new ≡ samples ix.now.net.table.now ix.now.net.shape i store.old }
 {
-    let n = associations(shape);
-    let mut j = first_association(t, ix, shape, OF_INPUT, i);
-    while j < n {
-        sample(store, shape, field(t, association_frame(t, shape, j), 1));
-        j = next_association(t, ix, shape, j);
+    for j in ix.associations_of(OF_INPUT, i) {
+        let v = field(ix.net.table, ix.net.association_frame(j), 1);
+        sample(store, ix.net.shape, v);
     }
 }
 
 // x, the value of input variable v, goes to its partner, if it has one.
-fn pass(t: &[u8], ix: &[u16; SIZE], store: &mut [u32], shape: Shape, v: usize, x: u32)
-    requires { Good t.now shape × (v < variables shape) × (x ≡ value shape store.old v) × Indexed t.now shape ix.now }
-    ensures { store.new ≡ pass_to shape (partner_variable t.now shape v) v store.old }
+fn pass(ix: &IndexedNetwork, store: &mut [u32], v: usize, x: u32)
+    requires { (v < variables ix.now.net.shape) × (x ≡ value ix.now.net.shape store.old v) }
+    ensures { store.new ≡ pass_to ix.now.net.shape (partner_variable ix.now.net.table.now ix.now.net.shape v) v store.old }
 {
-    let Found::One(u) = partner_variable(t, ix, shape, v) else {
+    let Some(u) = partner_variable(ix, v) else {
         return;
     };
-    put_value(store, shape, u, x);
+    put_value(store, ix.net.shape, u, x);
 }
 
 // Association j of event input i: its input gets value from buffer and passes it to its partner.
-fn pass_on(t: &[u8], ix: &[u16; SIZE], store: &mut [u32], shape: Shape, i: usize, j: usize)
-    requires { Good t.now shape × (j < associations_of shape) × Indexed t.now shape ix.now × (speaks t.now shape (voice of_input i) j ≡ true) }
-    ensures { store.new ≡ pass_at t.now shape i j (sample_at t.now shape i j store.old) }
+fn pass_on(ix: &IndexedNetwork, store: &mut [u32], i: usize, j: usize)
+    requires { (j < associations_of ix.now.net.shape) × (speaks ix.now.net.table.now ix.now.net.shape (voice of_input i) j ≡ true) }
+    ensures { store.new ≡ pass_at ix.now.net.table.now ix.now.net.shape i j (sample_at ix.now.net.table.now ix.now.net.shape i j store.old) }
 {
-    let v = field(t, association_frame(t, shape, j), 1);
-    let x = sample(store, shape, v);
-    pass(t, ix, store, shape, v, x);
+    let v = field(ix.net.table, ix.net.association_frame(j), 1);
+    let x = sample(store, ix.net.shape, v);
+    pass(ix, store, v, x);
 }
 
 // Associated inputs get value from buffer and pass it to their partners, all in one walk.
-fn pass_all(t: &[u8], ix: &[u16; SIZE], store: &mut [u32], shape: Shape, i: usize)
-    requires { Good t.now shape × Indexed t.now shape ix.now }
-    ensures { store.new ≡ passes t.now shape i (samples t.now shape i store.old) }
+fn pass_all(ix: &IndexedNetwork, store: &mut [u32], i: usize)
+    ensures { store.new ≡ passes ix.now.net.table.now ix.now.net.shape i (samples ix.now.net.table.now ix.now.net.shape i store.old) }
 {
-    let n = associations(shape);
-    let mut j = first_association(t, ix, shape, OF_INPUT, i);
-    while j < n {
-        pass_on(t, ix, store, shape, i, j);
-        j = next_association(t, ix, shape, j);
+    for j in ix.associations_of(OF_INPUT, i) {
+        pass_on(ix, store, i, j);
     }
 }
 
 // Interface: values to the partners first, then the partner event is fired with the same birth. It speaks by event input i itself, so
 // it carries the variables that were passed to.
-fn relay(
-    t: &[u8],
-    ix: &[u16; SIZE],
-    store: &mut [u32],
-    shape: Shape,
-    i: usize,
-    birth: u32,
-    time: u32,
-)
-    requires { Good t.now shape × (i < inputs shape) × (flag_at t.now (input_owner t.now shape i) ≡ interface) × Indexed t.now shape ix.now }
-    ensures { store.new ≡ fire_found t.now shape (partner_output t.now shape i) birth time (passes t.now shape i (samples t.now shape i store.old)) }
+fn relay(ix: &IndexedNetwork, store: &mut [u32], i: usize, birth: u32, time: u32)
+    requires { (i < inputs ix.now.net.shape) × (flag_at ix.now.net.table.now (input_owner ix.now.net.table.now ix.now.net.shape i) ≡ interface) }
+    ensures { store.new ≡ fire_found ix.now.net.table.now ix.now.net.shape (partner_output ix.now.net.table.now ix.now.net.shape i) birth time (passes ix.now.net.table.now ix.now.net.shape i (samples ix.now.net.table.now ix.now.net.shape i store.old)) }
 {
-    pass_all(t, ix, store, shape, i);
-    let Found::One(o) = partner_output(t, ix, shape, i) else {
+    pass_all(ix, store, i);
+    let Some(o) = partner_output(ix, i) else {
         return;
     };
     let w = Voice {
         flag: OF_INPUT,
         event: i,
     };
-    fire_by(t, ix, store, shape, o, w, birth, time);
+    fire_by(ix, store, o, w, birth, time);
 }
 
 // DT: the delay's one variable, a negative one counts as 0.
-fn dt_of(t: &[u8], store: &[u32], shape: Shape, el: usize) -> u32
-    requires { Good t.now shape }
-    ensures { Bounded 2147483648 (dt_of t.now shape el store.now) result }
+fn dt_of(net: &Network, store: &[u32], el: usize) -> u32
+    ensures { Bounded 2147483648 (dt_of net.now.table.now net.now.shape el store.now) result }
 {
-    let Found::One(v) = nth(t, shape.outputs_end, variables_of(shape), ANY, el, 0) else {
+    let Some(v) = nth(
+        net.table,
+        net.shape.outputs_end,
+        net.shape.variables(),
+        ANY,
+        el,
+        0,
+    ) else {
         return 0;
     };
-    ticks(value_of(store, shape, v))
+    ticks(value_of(store, net.shape, v))
 }
 
 // A START sets due to now + DT. One that finds the delay due comes before the output of the first, and leaves it.
-fn start(t: &[u8], store: &mut [u32], shape: Shape, el: usize, time: u32)
-    requires { Good t.now shape × (el < elements shape) × (time < 2147483648) × NextKept shape store.old }
-    ensures { store.new ≡ started t.now shape el time store.old }
+fn start(net: &Network, store: &mut [u32], el: usize, time: u32)
+    requires { (el < elements net.now.shape) × (time < 2147483648) × NextKept net.now.shape store.old }
+    ensures { store.new ≡ started net.now.table.now net.now.shape el time store.old }
 {
     if due_flag(store, el) == 0 {
-        let dt = dt_of(t, store, shape, el);
-        put_due(store, shape, el, 1, time + dt);
+        let dt = dt_of(net, store, el);
+        put_due(store, net.shape, el, 1, time + dt);
     }
 }
 
 // Delay: START, the first event input, or STOP, which clears it.
-fn start_stop(t: &[u8], store: &mut [u32], shape: Shape, el: usize, i: usize, time: u32)
-    requires { Good t.now shape × (i < inputs shape) × (el < elements shape) × (time < 2147483648) × NextKept shape store.old }
-    ensures { store.new ≡ start_stop t.now shape el i time store.old }
+fn start_stop(net: &Network, store: &mut [u32], el: usize, i: usize, time: u32)
+    requires { (i < inputs net.now.shape) × (el < elements net.now.shape) × (time < 2147483648) × NextKept net.now.shape store.old }
+    ensures { store.new ≡ start_stop net.now.table.now net.now.shape el i time store.old }
 {
-    if rank(t, shape.elements_end, ANY, el, i) == 0 {
-        start(t, store, shape, el, time);
+    if rank(net.table, net.shape.elements_end, ANY, el, i) == 0 {
+        start(net, store, el, time);
         return;
     }
-    put_due(store, shape, el, 0, 0);
+    put_due(store, net.shape, el, 0, 0);
 }
 
 // Basic: mode 1, live.
@@ -162,44 +150,50 @@ fn wake(store: &mut [u32], el: usize, i: usize, birth: u32)
     put_running(store, Running::awake(birth));
 }
 
-// The event that waits at event input i stops waiting, its associated inputs get value from buffer, and it does its work at element el, by its sort.
+// An event that is taken: the event input at which it waits, its element with the element's sort, its birth and its last update.
+#[derive(Clone, Copy, PartialEq, Eq, Debug)]
+pub struct Taken {
+    pub input: usize,
+    pub element: usize,
+    pub sort: usize,
+    pub birth: u32,
+    pub last: u32,
+}
+
+// The event e stops waiting, its associated inputs get value from buffer, and it does its work at its element, by the element's sort.
 // What an event does is decided here alone. A sink's record goes to the output at `at`; the answer is the place after what is written.
 pub fn receive(
-    t: &[u8],
-    ix: &[u16; SIZE],
+    ix: &IndexedNetwork,
     store: &mut [u32],
-    shape: Shape,
-    sort: usize,
-    el: usize,
-    i: usize,
-    birth: u32,
-    last: u32,
+    e: Taken,
     time: u32,
     out: &mut [u8],
     at: usize,
 ) -> usize
-    requires { Good t.now shape × (i < inputs shape) × Event t.now shape store.old i sort el birth last × (time < 2147483648) × (at + length (put_out t.now shape i birth time store.old) ≤ length out.old) × Indexed t.now shape ix.now × NextKept shape store.old }
-    ensures { Received t.now shape i time store.old store.new out.old out.new at result }
+    requires { (e.input < inputs ix.now.net.shape) × Event ix.now.net.table.now ix.now.net.shape store.old e.input e.sort e.element e.birth e.last × (time < 2147483648) × (at + length (put_out ix.now.net.table.now ix.now.net.shape e.input e.birth time store.old) ≤ length out.old) × NextKept ix.now.net.shape store.old }
+    ensures { Received ix.now.net.table.now ix.now.net.shape e.input time store.old store.new out.old out.new at result }
 {
-    put_input_in(store, shape, i, 0, 0, 0);
+    let i = e.input;
+    let sort = e.sort;
+    put_input_in(store, ix.net.shape, i, 0, 0, 0);
     match sort {
         BASIC => {
-            sample_all(t, ix, store, shape, i);
-            wake(store, el, i, birth);
+            sample_all(ix, store, i);
+            wake(store, e.element, i, e.birth);
             at
         }
         INTERFACE => {
-            relay(t, ix, store, shape, i, birth, time);
+            relay(ix, store, i, e.birth, time);
             at
         }
         DELAY => {
-            sample_all(t, ix, store, shape, i);
-            start_stop(t, store, shape, el, i, time);
+            sample_all(ix, store, i);
+            start_stop(&ix.net, store, e.element, i, time);
             at
         }
-        SINK => write_record(t, ix, store, shape, el, i, birth, last, time, out, at),
+        SINK => write_record(ix, store, e, time, out, at),
         _ => {
-            sample_all(t, ix, store, shape, i);
+            sample_all(ix, store, i);
             at
         }
     }

@@ -20,8 +20,7 @@ use Rattle.rules_tables.specs.Actions.{action_number}
 use Rattle.rules_store.specs.Word.{chart_state, value, running_of}
 use Rattle.rules_tables.specs.Owned.{any, rank, is_nth}
 use Rattle.rules_walks.proofs.laws.First.{first_in}
-use Rattle.table_parts.specs.declared.Found.{Found}
-use Rattle.table_parts.specs.declared.Found.TheVariants.{One, Missing}
+use Rattle.std.specs.Prelude.{Option, Some, None}
 use Rattle.table_parts.specs.Found.{found_of}
 use Rattle.table_parts.proofs.laws.Found.{found_one, found_missing}
 use Rattle.rules_moves.specs.Partner.{input_owner, partner_output}
@@ -66,15 +65,15 @@ module _ (T : List ℕ) (S : Shape) where
     event_in g l n = rw event_field (g.action_event j l (λ z. n (event_field ∙ z)))
 
   -- ---- the partner of event input i, as the search answered
-  module _ (i : ℕ) (r : Found) (e : r ≡ found_of (partner_output T S i)) where
-    pub partner_none : r ≡ Missing → [] ≡ emitted_entry T S (partner_output T S i)
+  module _ (i : ℕ) (r : Option ℕ) (e : r ≡ found_of (partner_output T S i)) where
+    pub partner_none : r ≡ None → [] ≡ emitted_entry T S (partner_output T S i)
     unfolding emitted_entry
     partner_none d = rw (found_missing (partner_output T S i) r e d)
 
-    pub partner_one : {o : ℕ} → r ≡ One o → emitted_entry T S (partner_output T S i) ≡ emitted_entry T S (one o)
+    pub partner_one : {o : ℕ} → r ≡ Some o → emitted_entry T S (partner_output T S i) ≡ emitted_entry T S (one o)
     partner_one {o} d = ap (emitted_entry T S) (found_one (partner_output T S i) r o e d)
 
-    pub partner_below : {o : ℕ} → r ≡ One o → o < outputs S
+    pub partner_below : {o : ℕ} → r ≡ Some o → o < outputs S
     unfolding partner_output
     partner_below {o} d =
         let h = first_in (is_nth T (first_output S) any (input_owner T S i) (rank T (first_input S) any (input_owner T S i) i)) 0 (outputs S) o (found_one (partner_output T S i) r o e d) in

@@ -1,8 +1,10 @@
 pub mod Before
+pub mod Brought
 pub mod Most
 pub mod Partners
 pub mod Sized
 pub mod Sizing
 pub mod Taking
+pub mod Taped
 pub mod Telling
 pub mod Told

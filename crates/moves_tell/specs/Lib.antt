@@ -1,4 +1,6 @@
 pub mod Before
+pub mod Brought
 pub mod Pairs
 pub mod Telling
 pub mod Told
+pub mod Taped

@@ -1,7 +1,6 @@
 // Moves 2, 4 and 5, and what any move has made of the running block's numbers.
 ghost use Rattle.std.specs.Prelude.{◌≡◌, ◌++◌, ◌<◌};
 ghost use Rattle.rules_tables.specs.Frame.{frames_of};
-ghost use Rattle.rules_tables.specs.Good.{Good};
 ghost use Rattle.store_words.specs.Small.{Small};
 ghost use Rattle.rules_tables.specs.Ids.{elements, transitions as «transitions_of», actions as «actions_of», steps as «steps_of», variables as «variables_of», step_frame};
 ghost use Rattle.rules_moves.specs.Chart.{element_of};
@@ -12,9 +11,10 @@ ghost use Rattle.rules_store.specs.Word.{running_of};
 ghost use Rattle.rules_traces.specs.Kinds.{action_kind, step_kind};
 ghost use Rattle.rules_traces.specs.Entry.{entry};
 ghost use Rattle.moves_tell.specs.Telling.{Numbered};
-ghost use Rattle.moves_tell.specs.Told.{Told, Room};
+ghost use Rattle.moves_tell.specs.Taped.{Taped, Space};
 
-use crate::entry::{happened, put_differing, put_entry, tell_emitted};
+use crate::entry::{happened, tell_emitted};
+use crate::tape::Tape;
 use moves_chart::element_of;
 use numbers::operation::operate_words;
 use rules_moves::Next;
@@ -23,40 +23,33 @@ use rules_traces::{
     ACTION_KIND, CHART_KIND, ENABLED_KIND, Entry, FINISHED_KIND, INTERNAL_KIND, OUTPUT_KIND,
     STEP_KIND,
 };
-use store_words::shape::{action_frame, step_frame, transition_frame, variable_frame};
+use store_words::network::Network;
 use store_words::word::{chart_state, running, value_of};
 use table_frames::frame::{field, flag};
 use table_frames::kind::{INTERNAL, NONE};
 
 // Transition j is made.
-pub fn tell_change(
-    t: &[u8],
-    store: &[u32],
-    shape: Shape,
-    j: usize,
-    trace: &mut [u8],
-    at: usize,
-) -> usize
-    requires { Good t.now shape × (j < transitions_of shape) × (element_of store.now < elements shape) × Room (change_entries t.now shape j store.now ++ enabled_entry (element_of store.now) j) at trace.old }
-    ensures { Told (change_entries t.now shape j store.now ++ enabled_entry (element_of store.now) j) at trace.old trace.new result }
+pub fn tell_change(net: &Network, store: &[u32], j: usize, tape: &mut Tape)
+    requires { (j < transitions_of net.now.shape) × (element_of store.now < elements net.now.shape) × Space (change_entries net.now.table.now net.now.shape j store.now ++ enabled_entry (element_of store.now) j) tape.old }
+    ensures { Taped (change_entries net.now.table.now net.now.shape j store.now ++ enabled_entry (element_of store.now) j) tape.old tape.new }
 {
     let el = element_of(store);
     let e = Entry {
         kind: CHART_KIND,
         block: el,
         id: 0,
-        value: field(t, transition_frame(t, shape, j), 1) as u32,
+        value: field(net.table, net.transition_frame(j), 1) as u32,
     };
-    let p = put_differing(trace, at, chart_state(store, el), e);
-    put_entry(trace, p, happened(ENABLED_KIND, el, j))
+    tape.put_differing(chart_state(store, el), e);
+    tape.put(happened(ENABLED_KIND, el, j));
 }
 
 // The running block ends.
-pub fn tell_idle(store: &[u32], trace: &mut [u8], at: usize) -> usize
-    requires { (element_of store.now < 65536) × Room (finished_entry (element_of store.now)) at trace.old }
-    ensures { Told (finished_entry (element_of store.now)) at trace.old trace.new result }
+pub fn tell_idle(store: &[u32], tape: &mut Tape)
+    requires { (element_of store.now < 65536) × Space (finished_entry (element_of store.now)) tape.old }
+    ensures { Taped (finished_entry (element_of store.now)) tape.old tape.new }
 {
-    put_entry(trace, at, happened(FINISHED_KIND, element_of(store), 0))
+    tape.put(happened(FINISHED_KIND, element_of(store), 0));
 }
 
 // The kind of a step's result: it is no input.
@@ -81,57 +74,40 @@ pub fn result_of(t: &[u8], store: &[u32], shape: Shape, f: usize, age: u32) -> u
 }
 
 // Step j is made.
-pub fn tell_step(
-    t: &[u8],
-    store: &[u32],
-    shape: Shape,
-    j: usize,
-    age: u32,
-    trace: &mut [u8],
-    at: usize,
-) -> usize
-    requires { Good t.now shape × (j < steps_of shape) × (age < 2147483648) × Room (step_entries t.now shape (step_frame shape j) age store.now) at trace.old }
-    ensures { Told (step_entries t.now shape (step_frame shape j) age store.now) at trace.old trace.new result }
+pub fn tell_step(net: &Network, store: &[u32], j: usize, age: u32, tape: &mut Tape)
+    requires { (j < steps_of net.now.shape) × (age < 2147483648) × Space (step_entries net.now.table.now net.now.shape (step_frame net.now.shape j) age store.now) tape.old }
+    ensures { Taped (step_entries net.now.table.now net.now.shape (step_frame net.now.shape j) age store.now) tape.old tape.new }
 {
-    let f = step_frame(t, shape, j);
-    let v = field(t, f, 0);
-    let x = result_of(t, store, shape, f, age);
-    tell_result(t, store, shape, v, x, trace, at)
+    let f = net.step_frame(j);
+    let v = field(net.table, f, 0);
+    let x = result_of(net.table, store, net.shape, f, age);
+    tell_result(net, store, v, x, tape);
 }
 
 // Variable v of a basic element gets x.
-fn tell_result(
-    t: &[u8],
-    store: &[u32],
-    shape: Shape,
-    v: usize,
-    x: u32,
-    trace: &mut [u8],
-    at: usize,
-) -> usize
-    requires { Good t.now shape × (v < variables_of shape) × Room (result_entry t.now shape v x store.now) at trace.old }
-    ensures { Told (result_entry t.now shape v x store.now) at trace.old trace.new result }
+fn tell_result(net: &Network, store: &[u32], v: usize, x: u32, tape: &mut Tape)
+    requires { (v < variables_of net.now.shape) × Space (result_entry net.now.table.now net.now.shape v x store.now) tape.old }
+    ensures { Taped (result_entry net.now.table.now net.now.shape v x store.now) tape.old tape.new }
 {
-    let f = variable_frame(t, shape, v);
+    let f = net.variable_frame(v);
     let e = Entry {
-        kind: result_kind(flag(t, f)),
-        block: field(t, f, 0),
+        kind: result_kind(flag(net.table, f)),
+        block: field(net.table, f, 0),
         id: v,
         value: x,
     };
-    put_differing(trace, at, value_of(store, shape, v), e)
+    tape.put_differing(value_of(store, net.shape, v), e);
 }
 
 // The event of action j, if any, is emitted.
-pub fn tell_end(t: &[u8], shape: Shape, j: usize, trace: &mut [u8], at: usize) -> usize
-    requires { Good t.now shape × (j < actions_of shape) × Room (emitted_entry t.now shape (event_of t.now shape j)) at trace.old }
-    ensures { Told (emitted_entry t.now shape (event_of t.now shape j)) at trace.old trace.new result }
+pub fn tell_end(net: &Network, j: usize, tape: &mut Tape)
+    requires { (j < actions_of net.now.shape) × Space (emitted_entry net.now.table.now net.now.shape (event_of net.now.table.now net.now.shape j)) tape.old }
+    ensures { Taped (emitted_entry net.now.table.now net.now.shape (event_of net.now.table.now net.now.shape j)) tape.old tape.new }
 {
-    let o = field(t, action_frame(t, shape, j), 3);
-    if o == NONE {
-        return at;
+    let o = field(net.table, net.action_frame(j), 3);
+    if o != NONE {
+        tell_emitted(net, o, tape);
     }
-    tell_emitted(t, shape, o, trace, at)
 }
 
 // The action number of the running element.
@@ -161,40 +137,33 @@ fn step_entry(store: &[u32]) -> Entry
 }
 
 // Action j has ended: another, or 0, at step 0.
-fn tell_ended(t: &[u8], store: &[u32], shape: Shape, j: usize, trace: &mut [u8], at: usize) -> usize
-    requires { Good t.now shape × (j < actions_of shape) × (element_of store.now < 65536) × Room (end_numbers t.now shape j store.now) at trace.old }
-    ensures { Told (end_numbers t.now shape j store.now) at trace.old trace.new result }
+fn tell_ended(net: &Network, store: &[u32], j: usize, tape: &mut Tape)
+    requires { (j < actions_of net.now.shape) × (element_of store.now < 65536) × Space (end_numbers net.now.table.now net.now.shape j store.now) tape.old }
+    ensures { Taped (end_numbers net.now.table.now net.now.shape j store.now) tape.old tape.new }
 {
-    let p = put_entry(trace, at, action_entry(store));
-    let steps = field(t, action_frame(t, shape, j), 2);
+    tape.put(action_entry(store));
+    let steps = field(net.table, net.action_frame(j), 2);
     let e = Entry {
         kind: STEP_KIND,
         block: element_of(store),
         id: 0,
         value: 0,
     };
-    put_differing(trace, p, steps as u32, e)
+    tape.put_differing(steps as u32, e);
 }
 
 // The action and step numbers that move n has changed, from the store after it.
-pub fn tell_numbers(
-    t: &[u8],
-    store: &[u32],
-    shape: Shape,
-    n: Next,
-    trace: &mut [u8],
-    at: usize,
-) -> usize
-    requires { Numbered t.now shape n store.now × Room (numbers_by t.now shape n store.now) at trace.old }
-    ensures { Told (numbers_by t.now shape n store.now) at trace.old trace.new result }
+pub fn tell_numbers(net: &Network, store: &[u32], n: Next, tape: &mut Tape)
+    requires { Numbered net.now.table.now net.now.shape n store.now × Space (numbers_by net.now.table.now net.now.shape n store.now) tape.old }
+    ensures { Taped (numbers_by net.now.table.now net.now.shape n store.now) tape.old tape.new }
 {
     match n {
-        Next::Take(_) => at,
-        Next::Change(_) => put_differing(trace, at, 0, action_entry(store)),
-        Next::Idle => at,
-        Next::Step(_) => put_entry(trace, at, step_entry(store)),
-        Next::End(j) => tell_ended(t, store, shape, j, trace, at),
-        Next::Back => at,
-        Next::Nothing => at,
+        Next::Take(_) => (),
+        Next::Change(_) => tape.put_differing(0, action_entry(store)),
+        Next::Idle => (),
+        Next::Step(_) => tape.put(step_entry(store)),
+        Next::End(j) => tell_ended(net, store, j, tape),
+        Next::Back => (),
+        Next::Nothing => (),
     }
 }

@@ -2,7 +2,6 @@
 // frames are counted and not told: what tells is called at one place alone, in the loop that makes the moves, and so the compiler can put it there.
 ghost use Rattle.std.specs.Prelude.{◌≡◌, ◌++◌, ◌<◌, ◌≤◌, length};
 ghost use Rattle.rules_tables.specs.Frame.{frames_of};
-ghost use Rattle.rules_tables.specs.Good.{Good};
 ghost use Rattle.rules_tables.specs.Ids.{inputs, variables as «variables_of», transitions as «transitions_of», actions as «actions_of», steps as «steps_of», step_frame};
 ghost use Rattle.rules_store.specs.Layout.{need};
 ghost use Rattle.rules_moves.specs.Partner.{input_owner};
@@ -13,119 +12,59 @@ ghost use Rattle.rules_moves.specs.Next.{move_by};
 ghost use Rattle.rules_traces.specs.Traceable.{Traceable};
 ghost use Rattle.rules_traces.specs.Gather.{gather};
 ghost use Rattle.rules_traces.specs.Trace.{finished_at_once, emitted_entry, enabled_entry, first_entries};
-ghost use Rattle.moves_tell.specs.Before.{sampled_entry, passed_entries, take_entries, take_events, change_entries, step_entries};
-ghost use Rattle.moves_tell.specs.Pairs.{partner_entry};
+ghost use Rattle.moves_tell.specs.Before.{take_entries, take_events, change_entries, step_entries};
+ghost use Rattle.moves_tell.specs.Brought.{brought};
 ghost use Rattle.moves_tell.specs.Told.{Sized};
-ghost use Rattle.moves_tell.specs.Telling.{Telling};
-ghost use Rattle.table_index.specs.Index.{Indexed};
 
 use crate::act::result_of;
-use crate::take::differs;
+use crate::take::brought;
+use crate::turn::Turn;
 use moves_chart::element_of;
-use moves_fire::partner::{partner_output, partner_variable};
+use moves_fire::partner::partner_output;
 use numbers::word::since;
 use rules_moves::Next;
-use rules_store::Running;
-use rules_tables::Shape;
-use store_words::shape::{action_frame, input_frame, step_frame, transition_frame, variables};
+use store_words::network::Network;
 use store_words::word::{chart_state, value_of};
 use table_frames::frame::{field, flag};
 use table_frames::kind::{BASIC, INTERFACE, NONE};
-use table_index::index::SIZE;
-use table_index::read::{first_variable, next_variable};
-use table_parts::Found;
+use table_index::indexed::IndexedNetwork;
 
 // The bytes of a frame.
 const FRAME: usize = 12;
 
-// Input v, if it is associated with the event.
-fn input_size(t: &[u8], ix: &[u16; SIZE], store: &[u32], shape: Shape, i: usize, v: usize) -> usize
-    requires { Good t.now shape × Indexed t.now shape ix.now × (v < variables_of shape) × (need shape ≤ length store.now) }
-    ensures { Sized (sampled_entry t.now shape i store.now v) result × (result ≤ 12) }
+// What the event brings by input v.
+fn brought_size(ix: &IndexedNetwork, store: &[u32], i: usize, v: usize, passed: bool) -> usize
+    requires { (v < variables_of ix.now.net.shape) × (need ix.now.net.shape ≤ length store.now) }
+    ensures { Sized (brought passed ix.now.net.table.now ix.now.net.shape i store.now v) result × (result ≤ 12) }
 {
-    if differs(t, ix, store, shape, i, v, v) {
-        FRAME
-    } else {
-        0
+    match brought(ix, store, i, v, passed) {
+        Some(_) => FRAME,
+        None => 0,
     }
 }
 
-// All inputs of element el. No table has more than 512 variables.
-fn inputs_size(
-    t: &[u8],
-    ix: &[u16; SIZE],
-    store: &[u32],
-    shape: Shape,
-    i: usize,
-    el: usize,
-) -> usize
-    requires { Traceable t.now shape × (el ≡ input_owner t.now shape i) × Indexed t.now shape ix.now × (need shape ≤ length store.now) }
-    ensures { Sized (gather (sampled_entry t.now shape i store.now) (variables_of shape)) result × (result ≤ 6144) }
+// All that it brings by the inputs of element el. No table has more than 512 variables.
+fn all_size(ix: &IndexedNetwork, store: &[u32], i: usize, el: usize, passed: bool) -> usize
+    requires { Traceable ix.now.net.table.now ix.now.net.shape × (el ≡ input_owner ix.now.net.table.now ix.now.net.shape i) × (need ix.now.net.shape ≤ length store.now) }
+    ensures { Sized (gather (brought passed ix.now.net.table.now ix.now.net.shape i store.now) (variables_of ix.now.net.shape)) result × (result ≤ 6144) }
 {
-    let n = variables(shape);
     let mut z = 0;
-    let mut v = first_variable(t, ix, shape, el);
-    while v < n {
-        z += input_size(t, ix, store, shape, i, v);
-        v = next_variable(t, ix, shape, v);
+    for v in ix.variables_of(el) {
+        z += brought_size(ix, store, i, v, passed);
     }
     z
 }
 
-// The partner of input v.
-fn output_size(t: &[u8], ix: &[u16; SIZE], store: &[u32], shape: Shape, i: usize, v: usize) -> usize
-    requires { Good t.now shape × Indexed t.now shape ix.now × (v < variables_of shape) × (need shape ≤ length store.now) }
-    ensures { Sized (partner_entry t.now shape i store.now v) result × (result ≤ 12) }
+// What inputs get, and of an interface outputs.
+fn values_size(ix: &IndexedNetwork, store: &[u32], i: usize, el: usize) -> usize
+    requires { Traceable ix.now.net.table.now ix.now.net.shape × (i < inputs ix.now.net.shape) × (el ≡ input_owner ix.now.net.table.now ix.now.net.shape i) × (need ix.now.net.shape ≤ length store.now) }
+    ensures { Sized (take_entries ix.now.net.table.now ix.now.net.shape i store.now) result × (result ≤ 12288) }
 {
-    let Found::One(u) = partner_variable(t, ix, shape, v) else {
-        return 0;
-    };
-    if differs(t, ix, store, shape, i, v, u) {
-        FRAME
-    } else {
-        0
-    }
-}
-
-// The outputs of interface el.
-fn outputs_size(
-    t: &[u8],
-    ix: &[u16; SIZE],
-    store: &[u32],
-    shape: Shape,
-    i: usize,
-    el: usize,
-) -> usize
-    requires { Traceable t.now shape × (el ≡ input_owner t.now shape i) × Indexed t.now shape ix.now × (need shape ≤ length store.now) }
-    ensures { Sized (passed_entries t.now shape i store.now) result × (result ≤ 6144) }
-{
-    let n = variables(shape);
-    let mut z = 0;
-    let mut v = first_variable(t, ix, shape, el);
-    while v < n {
-        z += output_size(t, ix, store, shape, i, v);
-        v = next_variable(t, ix, shape, v);
-    }
-    z
-}
-
-// Inputs, and of an interface outputs.
-fn values_size(
-    t: &[u8],
-    ix: &[u16; SIZE],
-    store: &[u32],
-    shape: Shape,
-    i: usize,
-    el: usize,
-) -> usize
-    requires { Traceable t.now shape × (i < inputs shape) × (el ≡ input_owner t.now shape i) × Indexed t.now shape ix.now × (need shape ≤ length store.now) }
-    ensures { Sized (take_entries t.now shape i store.now) result × (result ≤ 12288) }
-{
-    let z = inputs_size(t, ix, store, shape, i, el);
-    if flag(t, el) != INTERFACE {
+    let z = all_size(ix, store, i, el, false);
+    if flag(ix.net.table, el) != INTERFACE {
         return z;
     }
-    z + outputs_size(t, ix, store, shape, i, el)
+    z + all_size(ix, store, i, el, true)
 }
 
 // The block is finished, at once where it has no chart.
@@ -137,42 +76,42 @@ fn finished_size(t: &[u8], el: usize) -> usize
 }
 
 // An interface's partner event.
-fn partner_size(t: &[u8], ix: &[u16; SIZE], shape: Shape, i: usize, el: usize) -> usize
-    requires { Good t.now shape × (i < inputs shape) × (el ≡ input_owner t.now shape i) × Indexed t.now shape ix.now }
-    ensures { Sized (emitted_entry t.now shape (fired_by t.now shape i)) result × (result ≤ 12) }
+fn partner_size(ix: &IndexedNetwork, i: usize, el: usize) -> usize
+    requires { (i < inputs ix.now.net.shape) × (el ≡ input_owner ix.now.net.table.now ix.now.net.shape i) }
+    ensures { Sized (emitted_entry ix.now.net.table.now ix.now.net.shape (fired_by ix.now.net.table.now ix.now.net.shape i)) result × (result ≤ 12) }
 {
-    if flag(t, el) != INTERFACE {
+    if flag(ix.net.table, el) != INTERFACE {
         return 0;
     }
-    match partner_output(t, ix, shape, i) {
-        Found::One(_) => FRAME,
-        Found::Missing => 0,
+    match partner_output(ix, i) {
+        Some(_) => FRAME,
+        None => 0,
     }
 }
 
 // The block is started, perhaps finished at once, the event selected, and an interface's partner event emitted.
-fn events_size(t: &[u8], ix: &[u16; SIZE], shape: Shape, i: usize, el: usize) -> usize
-    requires { Good t.now shape × (i < inputs shape) × (el ≡ input_owner t.now shape i) × Indexed t.now shape ix.now }
-    ensures { Sized (take_events t.now shape i) result × (result ≤ 48) }
+fn events_size(ix: &IndexedNetwork, i: usize, el: usize) -> usize
+    requires { (i < inputs ix.now.net.shape) × (el ≡ input_owner ix.now.net.table.now ix.now.net.shape i) }
+    ensures { Sized (take_events ix.now.net.table.now ix.now.net.shape i) result × (result ≤ 48) }
 {
-    FRAME + finished_size(t, el) + FRAME + partner_size(t, ix, shape, i, el)
+    FRAME + finished_size(ix.net.table, el) + FRAME + partner_size(ix, i, el)
 }
 
 // Event input i is taken.
-fn take_size(t: &[u8], ix: &[u16; SIZE], store: &[u32], shape: Shape, i: usize) -> usize
-    requires { Traceable t.now shape × (i < inputs shape) × Indexed t.now shape ix.now × (need shape ≤ length store.now) }
-    ensures { Sized (take_entries t.now shape i store.now ++ take_events t.now shape i) result }
+fn take_size(ix: &IndexedNetwork, store: &[u32], i: usize) -> usize
+    requires { Traceable ix.now.net.table.now ix.now.net.shape × (i < inputs ix.now.net.shape) × (need ix.now.net.shape ≤ length store.now) }
+    ensures { Sized (take_entries ix.now.net.table.now ix.now.net.shape i store.now ++ take_events ix.now.net.table.now ix.now.net.shape i) result }
 {
-    let el = field(t, input_frame(t, shape, i), 0);
-    values_size(t, ix, store, shape, i, el) + events_size(t, ix, shape, i, el)
+    let el = field(ix.net.table, ix.net.input_frame(i), 0);
+    values_size(ix, store, i, el) + events_size(ix, i, el)
 }
 
 // Transition j is made: the chart state, where it differs, and the transition.
-fn transition_size(t: &[u8], store: &[u32], shape: Shape, j: usize) -> usize
-    requires { Good t.now shape × (j < transitions_of shape) }
-    ensures { Sized (change_entries t.now shape j store.now ++ enabled_entry (element_of store.now) j) result }
+fn transition_size(net: &Network, store: &[u32], j: usize) -> usize
+    requires { j < transitions_of net.now.shape }
+    ensures { Sized (change_entries net.now.table.now net.now.shape j store.now ++ enabled_entry (element_of store.now) j) result }
 {
-    let to = field(t, transition_frame(t, shape, j), 1) as u32;
+    let to = field(net.table, net.transition_frame(j), 1) as u32;
     if chart_state(store, element_of(store)) == to {
         FRAME
     } else {
@@ -181,14 +120,14 @@ fn transition_size(t: &[u8], store: &[u32], shape: Shape, j: usize) -> usize
 }
 
 // Step j is made.
-fn step_size(t: &[u8], store: &[u32], shape: Shape, j: usize, age: u32) -> usize
-    requires { Good t.now shape × (j < steps_of shape) × (age < 2147483648) }
-    ensures { Sized (step_entries t.now shape (step_frame shape j) age store.now) result }
+fn step_size(net: &Network, store: &[u32], j: usize, age: u32) -> usize
+    requires { (j < steps_of net.now.shape) × (age < 2147483648) }
+    ensures { Sized (step_entries net.now.table.now net.now.shape (step_frame net.now.shape j) age store.now) result }
 {
-    let f = step_frame(t, shape, j);
-    let v = field(t, f, 0);
-    let x = result_of(t, store, shape, f, age);
-    if value_of(store, shape, v) == x {
+    let f = net.step_frame(j);
+    let v = field(net.table, f, 0);
+    let x = result_of(net.table, store, net.shape, f, age);
+    if value_of(store, net.shape, v) == x {
         0
     } else {
         FRAME
@@ -196,36 +135,28 @@ fn step_size(t: &[u8], store: &[u32], shape: Shape, j: usize, age: u32) -> usize
 }
 
 // The event of action j, if any, is emitted.
-fn event_size(t: &[u8], shape: Shape, j: usize) -> usize
-    requires { Good t.now shape × (j < actions_of shape) }
-    ensures { Sized (emitted_entry t.now shape (event_of t.now shape j)) result }
+fn event_size(net: &Network, j: usize) -> usize
+    requires { j < actions_of net.now.shape }
+    ensures { Sized (emitted_entry net.now.table.now net.now.shape (event_of net.now.table.now net.now.shape j)) result }
 {
-    if field(t, action_frame(t, shape, j), 3) == NONE {
+    if field(net.table, net.action_frame(j), 3) == NONE {
         0
     } else {
         FRAME
     }
 }
 
-// The move n comes next, r being the running block.
-pub fn first_size(
-    t: &[u8],
-    ix: &[u16; SIZE],
-    store: &[u32],
-    shape: Shape,
-    time: u32,
-    r: Running,
-    n: Next,
-) -> usize
-    requires { Telling t.now shape time r n store.now × Indexed t.now shape ix.now }
-    ensures { Sized (first_entries t.now shape n store.now (move_by t.now shape time n store.now)) result }
+// The move that comes next.
+pub fn first_size(turn: Turn) -> usize
+    ensures { Sized (first_entries turn.entry.ix.now.net.table.now turn.entry.ix.now.net.shape turn.entry.next turn.entry.store.now (move_by turn.entry.ix.now.net.table.now turn.entry.ix.now.net.shape turn.entry.time turn.entry.next turn.entry.store.now)) result }
 {
-    match n {
-        Next::Take(i) => take_size(t, ix, store, shape, i),
-        Next::Change(j) => transition_size(t, store, shape, j),
+    let (ix, store) = (turn.ix, turn.store);
+    match turn.next {
+        Next::Take(i) => take_size(ix, store, i),
+        Next::Change(j) => transition_size(&ix.net, store, j),
         Next::Idle => FRAME,
-        Next::Step(j) => step_size(t, store, shape, j, since(time, r.birth)),
-        Next::End(j) => event_size(t, shape, j),
+        Next::Step(j) => step_size(&ix.net, store, j, since(turn.time, turn.r.birth)),
+        Next::End(j) => event_size(&ix.net, j),
         Next::Back => 0,
         Next::Nothing => 0,
     }

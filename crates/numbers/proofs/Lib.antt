@@ -1,5 +1,4 @@
 pub mod laws
 pub mod Signs
 pub mod Quotient
-pub mod Halves
-pub mod Keys
+pub mod Runs

@@ -8,7 +8,7 @@ ghost use Rattle.rules_numbers.specs.Bytes.{half_at, word_at, half_bytes, word_b
 pub fn wide(b: u8) -> usize
     ensures { Bounded 256 b result }
 {
-    b as usize
+    usize::from(b)
 }
 
 // The byte at `at`.
@@ -20,19 +20,21 @@ pub fn byte_at(s: &[u8], at: usize) -> usize
 }
 
 // The 16-bit number at `at`.
+#[tactic(auto, unfolding(rules_numbers::specs::Bytes::half_at))]
 pub fn half_at(s: &[u8], at: usize) -> usize
     requires { at + 1 < length s.now }
     ensures { Bounded 65536 (half_at s.now at) result }
 {
-    byte_at(s, at) * 256 + byte_at(s, at + 1)
+    usize::from(u16::from_be_bytes([s[at], s[at + 1]]))
 }
 
 // The 32-bit number at `at`.
+#[tactic(auto, unfolding(rules_numbers::specs::Bytes::word_at, rules_numbers::specs::Bytes::half_at))]
 pub fn word_at(s: &[u8], at: usize) -> u32
     requires { at + 3 < length s.now }
     ensures { Bounded 4294967296 (word_at s.now at) result }
 {
-    (half_at(s, at) * 65536 + half_at(s, at + 2)) as u32
+    u32::from_be_bytes([s[at], s[at + 1], s[at + 2], s[at + 3]])
 }
 
 // Writes the 16-bit number h at `at`.
@@ -40,8 +42,7 @@ pub fn put_half(s: &mut [u8], at: usize, h: u16)
     requires { at + 1 < length s.old }
     ensures { s.new ≡ sets s.old at (half_bytes h) }
 {
-    s[at] = (h / 256) as u8;
-    s[at + 1] = (h % 256) as u8;
+    s[at..at + 2].copy_from_slice(&h.to_be_bytes());
 }
 
 // Writes the 32-bit number w at `at`.
@@ -49,6 +50,5 @@ pub fn put_word(s: &mut [u8], at: usize, w: u32)
     requires { at + 3 < length s.old }
     ensures { s.new ≡ sets s.old at (word_bytes w) }
 {
-    put_half(s, at, (w / 65536) as u16);
-    put_half(s, at + 2, (w % 65536) as u16);
+    s[at..at + 4].copy_from_slice(&w.to_be_bytes());
 }

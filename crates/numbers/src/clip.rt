@@ -29,38 +29,36 @@ pub fn untrue(x: i32) -> Outcome
 fn narrow(x: i64) -> Outcome
     ensures { result ≡ clipped x }
 {
-    if x < -2147483648 {
-        untrue(-2147483648)
-    } else if x > 2147483647 {
-        untrue(2147483647)
-    } else {
-        exact(x as i32)
+    match i32::try_from(x) {
+        Ok(kept) => exact(kept),
+        Err(_) if x < 0 => untrue(i32::MIN),
+        Err(_) => untrue(i32::MAX),
     }
 }
 
 pub fn add(b: i32, c: i32) -> Outcome
     ensures { result ≡ clipped (b +ℤ c) }
 {
-    narrow((b as i64) + (c as i64))
+    narrow(i64::from(b) + i64::from(c))
 }
 
 // Subtracts c from b.
 pub fn subtract(b: i32, c: i32) -> Outcome
     ensures { result ≡ clipped (b -ℤ c) }
 {
-    narrow((b as i64) - (c as i64))
+    narrow(i64::from(b) - i64::from(c))
 }
 
 pub fn negate(b: i32) -> Outcome
     ensures { result ≡ clipped (neg_ℤ b) }
 {
-    narrow(-(b as i64))
+    narrow(-i64::from(b))
 }
 
 pub fn multiply(b: i32, c: i32) -> Outcome
     ensures { result ≡ clipped (b *ℤ c) }
 {
-    narrow((b as i64) * (c as i64))
+    narrow(i64::from(b) * i64::from(c))
 }
 
 // Divides b by c toward zero; a zero divisor gives 0, which is not true. Only a quotient by -1 can leave the range, so the machine's own division does the rest.
@@ -79,11 +77,11 @@ pub fn divide(b: i32, c: i32) -> Outcome
 pub fn minimum(b: i32, c: i32) -> i32
     ensures { result ≡ least b c }
 {
-    if c < b { c } else { b }
+    b.min(c)
 }
 
 pub fn maximum(b: i32, c: i32) -> i32
     ensures { result ≡ greatest b c }
 {
-    if b < c { c } else { b }
+    b.max(c)
 }

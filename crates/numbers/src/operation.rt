@@ -8,6 +8,8 @@ use crate::word::{to_signed, to_word};
 use rules_numbers::Outcome;
 
 // What operation `op` tells: its result, and whether that is the true one. The table check lets no number above 8 through.
+// Stays a match over numbers: a step of the table has the number, and each arm is a line.
+#[tactic(auto, unfolding(rules_numbers::specs::Truth::outcome, rules_numbers::specs::Truth::true_value, rules_numbers::specs::Operation::operation))]
 pub fn operate(op: usize, b: i32, c: i32, age: i32) -> Outcome
     ensures { result ≡ outcome op b c age }
 {
@@ -25,7 +27,7 @@ pub fn operate(op: usize, b: i32, c: i32, age: i32) -> Outcome
     }
 }
 
-// The same on store words; the age is in ticks.
+// The same on store words; the age is in ticks. The cast of the age loses nothing, as is proved; `try_from` would have an error that cannot come.
 pub fn outcome_words(op: usize, b: u32, c: u32, age: u32) -> Outcome
     requires { age < 2147483648 }
     ensures { result ≡ outcome op (signed b) (signed c) (pos age) }

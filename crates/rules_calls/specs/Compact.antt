@@ -1,7 +1,6 @@
 -- An answer whose refusal number and frame fit one number.
 use Rattle.std.specs.Prelude.{◌≤◌}
-use Rattle.rules_calls.specs.declared.Answer.{Answer}
-use Rattle.rules_calls.specs.Answer.{number_of, frame_of}
+use Rattle.rules_calls.specs.Answer.{number_of, frame_of, Answer}
 
 -- ---- an answer whose number and frame fit one number
 pub record Compact (a : Answer) : Type 0 where

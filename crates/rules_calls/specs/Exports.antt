@@ -4,8 +4,7 @@ use Rattle.rules_tables.specs.declared.Shape.{Shape}
 use Rattle.rules_tables.specs.declared.Span.{Span}
 use Rattle.rules_tables.specs.Judge.{Verdict, accepted, refused, judge, shape_of}
 use Rattle.rules_store.specs.Layout.{need}
-use Rattle.rules_calls.specs.declared.Answer.{Answer}
-use Rattle.rules_calls.specs.Answer.{number_of, frame_of, moves_of, bytes_of, stop_of, untrue_of}
+use Rattle.rules_calls.specs.Answer.{number_of, frame_of, moves_of, bytes_of, stop_of, untrue_of, Answer}
 use Rattle.rules_calls.specs.Public.{LoadCall, AdvanceCall, ArrivalCall, RunCall}
 
 -- an answer's refusal number above the lowest 16 bits, the frame in them

@@ -1,6 +1,6 @@
 -- The public calls: what each answers and leaves, and the statement that its code is proved to meet. "Number 1 comes first. Of 2, 3 and 4, the lowest
 -- faulty frame is named, and on it the lowest number. Then 5, 6 and the call's own, rising."
-use Rattle.std.specs.Prelude.{ℕ, ◌≡◌, List, eqb, length}
+use Rattle.std.specs.Prelude.{ℕ, ◌≡◌, List, eqb, length, Ok}
 use Rattle.std.proofs.lemmas.List.Edits.{sets}
 use Rattle.rules_walks.specs.Pick.{pick}
 use Rattle.rules_tables.specs.declared.Shape.{Shape}
@@ -9,10 +9,9 @@ use Rattle.rules_store.specs.Word.{now_of}
 use Rattle.rules_store.specs.Load.{loaded}
 use Rattle.rules_calls.specs.Run.{after, bytes, untrue_in, made, stop_after}
 use Rattle.rules_calls.specs.Calls.{advanced, arrived}
-use Rattle.rules_calls.specs.declared.Answer.{Answer}
-use Rattle.rules_calls.specs.declared.Answer.TheVariants.{Done, Ran}
-use Rattle.rules_calls.specs.Answer.{number_of, frame_of, moves_of, bytes_of, stop_of, untrue_of, answer_by, kept_by}
+use Rattle.rules_calls.specs.Answer.{number_of, frame_of, moves_of, bytes_of, stop_of, untrue_of, answer_by, kept_by, Answer}
 use Rattle.rules_calls.specs.Refusals.{load_refusal, store_refusal, advance_refusal, arrival_refusal}
+use Rattle.rules_calls.specs.declared.Outcome.TheVariants.{Done, Ran}
 
 -- ---- what each call answers and leaves
 -- a call with its arguments
@@ -35,13 +34,13 @@ run_moves T s budget room = made T (shape_of T) (now_of s) budget room s
 
 abbrev pub run_answer : List ℕ → List ℕ → ℕ → ℕ → ℕ → Answer
 run_answer T s budget room m =
-    Ran m (length (bytes T (shape_of T) (now_of s) m s)) (stop_after T (shape_of T) (now_of s) room s m) (untrue_in T (shape_of T) (now_of s) m s)
+    Ok (Ran m (length (bytes T (shape_of T) (now_of s) m s)) (stop_after T (shape_of T) (now_of s) room s m) (untrue_in T (shape_of T) (now_of s) m s))
 
 -- what it answers where nothing refuses it, and the store that it leaves then
 abbrev pub done_answer : List ℕ → ℕ → List ℕ → Call → Answer
-done_answer T room s load = Done
-done_answer T room s (advance t) = Done
-done_answer T room s (arrival o birth values) = Done
+done_answer T room s load = Ok Done
+done_answer T room s (advance t) = Ok Done
+done_answer T room s (arrival o birth values) = Ok Done
 done_answer T room s (run budget) = run_answer T s budget room (run_moves T s budget room)
 
 abbrev pub done_store : List ℕ → ℕ → List ℕ → Call → List ℕ

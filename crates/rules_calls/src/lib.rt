@@ -1,79 +1,90 @@
-// The rules of the calls: types and definitions in specs/, laws about them in proofs/laws/. No code but the answer's own methods.
+// The rules of the calls: types and definitions in specs/, laws about them in proofs/laws/. No code but what an answer tells.
 #![tactic(auto)]
 
 ghost use Rattle.std.specs.Prelude.{◌≡◌};
 ghost use Rattle.rules_calls.specs.Answer.{number_of, frame_of, moves_of, bytes_of, stop_of, untrue_of};
 
-// What a call answers.
-#[derive(Clone, Copy)]
-pub enum Answer {
-    // Document 01's number, and the frame for 2 to 4, else 0.
-    Refused(usize, usize),
+use rules_tables::Refusal;
+
+// What a call tells that is not refused.
+#[derive(Clone, Copy, PartialEq, Eq, Debug)]
+pub enum Outcome {
     // Load, advance and arrival have nothing else to tell.
     Done,
     // Run: the moves made, the bytes written, why it stopped (1, 2 or 3), and how many of its steps were untrue.
     Ran(u32, usize, u32, u32),
 }
 
+// What a call answers.
+pub type Answer = Result<Outcome, Refusal>;
+
 // What an answer tells: refusal number, frame, moves, bytes, stop number and untrue steps, each 0 where it has none.
-impl Answer {
-    pub fn number(self) -> usize
+pub trait Answered {
+    fn number(self) -> usize;
+
+    fn frame(self) -> usize;
+
+    fn moves(self) -> u32;
+
+    fn bytes(self) -> usize;
+
+    fn stop(self) -> u32;
+
+    fn untrue(self) -> u32;
+}
+
+impl Answered for Answer {
+    fn number(self) -> usize
         ensures { result ≡ number_of self }
     {
         match self {
-            Answer::Refused(number, _) => number,
-            Answer::Done => 0,
-            Answer::Ran(_, _, _, _) => 0,
+            Err(refusal) => refusal.number,
+            Ok(_) => 0,
         }
     }
 
-    pub fn frame(self) -> usize
+    fn frame(self) -> usize
         ensures { result ≡ frame_of self }
     {
         match self {
-            Answer::Refused(_, frame) => frame,
-            Answer::Done => 0,
-            Answer::Ran(_, _, _, _) => 0,
+            Err(refusal) => refusal.frame,
+            Ok(_) => 0,
         }
     }
 
-    pub fn moves(self) -> u32
+    fn moves(self) -> u32
         ensures { result ≡ moves_of self }
     {
         match self {
-            Answer::Refused(_, _) => 0,
-            Answer::Done => 0,
-            Answer::Ran(moves, _, _, _) => moves,
+            Ok(Outcome::Ran(moves, _, _, _)) => moves,
+            _ => 0,
         }
     }
 
-    pub fn bytes(self) -> usize
+    fn bytes(self) -> usize
         ensures { result ≡ bytes_of self }
     {
         match self {
-            Answer::Refused(_, _) => 0,
-            Answer::Done => 0,
-            Answer::Ran(_, bytes, _, _) => bytes,
+            Ok(Outcome::Ran(_, bytes, _, _)) => bytes,
+            _ => 0,
         }
     }
 
-    pub fn stop(self) -> u32
+    fn stop(self) -> u32
         ensures { result ≡ stop_of self }
     {
         match self {
-            Answer::Refused(_, _) => 0,
-            Answer::Done => 0,
-            Answer::Ran(_, _, stop, _) => stop,
+            Ok(Outcome::Ran(_, _, stop, _)) => stop,
+            _ => 0,
         }
     }
 
-    pub fn untrue(self) -> u32
+    fn untrue(self) -> u32
         ensures { result ≡ untrue_of self }
     {
         match self {
-            Answer::Refused(_, _) => 0,
-            Answer::Done => 0,
-            Answer::Ran(_, _, _, untrue) => untrue,
+            Ok(Outcome::Ran(_, _, _, untrue)) => untrue,
+            _ => 0,
         }
     }
 }

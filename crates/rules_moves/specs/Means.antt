@@ -13,7 +13,7 @@ use Rattle.rules_moves.specs.Chart.{transition_of, state_of}
 use Rattle.rules_tables.specs.Actions.{action_of}
 use Rattle.rules_moves.specs.declared.Next.{Next}
 use Rattle.rules_moves.specs.declared.Next.TheVariants.{Take, Change, Idle, Step, End, Back, Nothing}
-use Rattle.rules_moves.specs.declared.Best.TheVariants.{Nothing as «NoEvent»}
+use Rattle.std.specs.Prelude.{None}
 
 -- mode 2 is every other mode
 pub record Acting (r : Running) : Type 0 where
@@ -41,4 +41,4 @@ Means T S r s Idle = (r.mode ≡ charts) × (transition_of T S s (state_of s) (c
 Means T S r s (Step j) = Stepping T S r s j
 Means T S r s (End j) = Ending T S r s j
 Means T S r s Back = Acting r × (action_of T S (state_of s) r.action ≡ missing)
-Means T S r s Nothing = (r.mode ≡ idle) × (least T S s ≡ «NoEvent»)
+Means T S r s Nothing = (r.mode ≡ idle) × (least T S s ≡ None)

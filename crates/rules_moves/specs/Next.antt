@@ -9,8 +9,8 @@ use Rattle.rules_store.specs.declared.Running.{Running}
 use Rattle.rules_tables.specs.Ids.{action_frame, step_frame}
 use Rattle.rules_store.specs.Running.{idle, charts, charting}
 use Rattle.rules_store.specs.Word.{current_event, running_of, put_running, birth_of}
-use Rattle.rules_moves.specs.declared.Best.{Best}
-use Rattle.rules_moves.specs.declared.Best.TheVariants.{At, Nothing as «NoEvent»}
+use Rattle.rules_moves.specs.Least.{Best}
+use Rattle.std.specs.Prelude.{Some, None}
 use Rattle.rules_moves.specs.declared.Next.{Next}
 use Rattle.rules_moves.specs.declared.Next.TheVariants.{Take, Change, Idle, Step, End, Back, Nothing}
 use Rattle.rules_moves.specs.Least.{least}
@@ -23,8 +23,8 @@ use Rattle.rules_moves.specs.Act.{untrue_step, step_move, end_move}
 -- ---- which move comes next
 -- 1. "Idle, something waiting: take the least"
 unfoldable pub event_next : Best → Next
-event_next (At i k) = Take i
-event_next «NoEvent» = Nothing
+event_next (Some (i, k)) = Take i
+event_next None = Nothing
 
 -- 2. "Mode 1: the first transition"; 3. "Mode 1, no such transition"
 unfoldable pub chart_next : Sought → Next

@@ -26,12 +26,6 @@ pub enum Guard {
     AtMost(usize, usize),
 }
 
-#[derive(Clone, Copy)]
-pub enum Best {
-    At(usize, Key),
-    Nothing,
-}
-
 // Which of the six moves comes next, and what it found.
 #[derive(Clone, Copy)]
 pub enum Next {

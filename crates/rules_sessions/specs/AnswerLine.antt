@@ -1,8 +1,7 @@
 -- "Each load and call prints C0, flag refusal, a frame, b, c moves, d stop number, e bytes"
 use Rattle.std.specs.Prelude.{ℕ, ◌%◌, List, ◌∷◌, ◌++◌}
 use Rattle.rules_numbers.specs.Bytes.{half_bytes, word_bytes}
-use Rattle.rules_calls.specs.declared.Answer.{Answer}
-use Rattle.rules_calls.specs.Answer.{number_of, frame_of, moves_of, stop_of, bytes_of}
+use Rattle.rules_calls.specs.Answer.{number_of, frame_of, moves_of, stop_of, bytes_of, Answer}
 use Rattle.rules_sessions.specs.Text.{line_of}
 
 -- the frame of an answer's five numbers; what a call answers fits, so no remainder takes anything away (laws/Fits)

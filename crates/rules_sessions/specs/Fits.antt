@@ -1,7 +1,6 @@
 -- The numbers of an answer fit their places in its line.
 use Rattle.std.specs.Prelude.{◌<◌}
-use Rattle.rules_calls.specs.declared.Answer.{Answer}
-use Rattle.rules_calls.specs.Answer.{number_of, frame_of, moves_of, stop_of, bytes_of}
+use Rattle.rules_calls.specs.Answer.{number_of, frame_of, moves_of, stop_of, bytes_of, Answer}
 
 pub record Fits (a : Answer) : Type 0 where
   pub number : number_of a < 256

@@ -1,14 +1,14 @@
 -- "The step program": what a session prints, over the lines of its input. Its only sizes are those of the store and of the output buffer.
-use Rattle.std.specs.Prelude.{List, [], ◌∷◌, ◌++◌, ℕ, eqb, length, replicate}
+use Rattle.std.specs.Prelude.{List, [], ◌∷◌, ◌++◌, ℕ, eqb, length, replicate, Ok, Err}
 use Rattle.rules_walks.specs.Choose.{choose}
-use Rattle.rules_calls.specs.declared.Answer.{Answer}
-use Rattle.rules_calls.specs.declared.Answer.TheVariants.{Refused, Done, Ran}
 use Rattle.rules_sessions.specs.declared.Command.{Command}
 use Rattle.rules_sessions.specs.declared.Command.TheVariants.{Wrong, Advance, Arrival, Value, Run}
 use Rattle.rules_sessions.specs.Line.{line_ok, line_frame, opens}
 use Rattle.rules_sessions.specs.Command.{line_command}
 use Rattle.rules_sessions.specs.AnswerLine.{answer_line, malformed_line}
 use Rattle.rules_calls.specs.Public.{load_answer, load_store, advance_answer, advance_store, arrival_answer, arrival_store, run_store}
+use Rattle.rules_calls.specs.Answer.{Answer}
+use Rattle.rules_calls.specs.declared.Outcome.TheVariants.{Done, Ran}
 use Rattle.rules_sessions.specs.RunText.{run_text}
 
 -- "Standard input has lines (ended by 0A, the last perhaps not)": the lines of L followed by the bytes; nothing after the last 0A is no line
@@ -47,9 +47,9 @@ malformed = record { stage = halted; text = malformed_line }
 
 -- ---- the load: "A refused load stops the program."
 abbrev pub after_load : Answer → List ℕ → List ℕ → Stage
-after_load (Refused q f) T s = halted
-after_load Done T s = calling T s
-after_load (Ran m b n u) T s = calling T s
+after_load (Err r) T s = halted
+after_load (Ok Done) T s = calling T s
+after_load (Ok (Ran m b n u)) T s = calling T s
 
 unfoldable pub load_deed : List ℕ → List ℕ → Deed
 load_deed T s = record { stage = after_load (load_answer T s) T (load_store T s); text = answer_line (load_answer T s) }

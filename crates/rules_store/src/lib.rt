@@ -5,14 +5,14 @@
 ghost use Rattle.std.specs.Prelude.{◌≡◌, ◌<◌};
 ghost use Rattle.rules_store.specs.Running.{rest as «rest_of», awake as «awake_of», entered as «entered_of», stepped as «stepped_of», charting as «charting_of»};
 
-// The modes.
+// The modes. They stay numbers: a store may hold any number there, and whether it is a mode is part of being well formed (`mode_ok`).
 pub const IDLE: u32 = 0;
 
 pub const CHARTS: u32 = 1;
 
 pub const ACTS: u32 = 2;
 
-#[derive(Clone, Copy)]
+#[derive(Clone, Copy, PartialEq, Eq, Debug)]
 pub struct Running {
     pub birth: u32,
     pub mode: u32,
@@ -21,8 +21,9 @@ pub struct Running {
     pub step: u32,
 }
 
-// The next due time: 1 and the earliest due time where something is due, else 0 and 0.
-#[derive(Clone, Copy)]
+// The next due time: 1 and the earliest due time where something is due, else 0 and 0. It stays two numbers: a store may hold any two there, and `next_ok` compares
+// them with those found.
+#[derive(Clone, Copy, PartialEq, Eq, Debug)]
 pub struct NextDue {
     pub due: u32,
     pub time: u32,
@@ -60,11 +61,11 @@ impl Running {
         ensures { result ≡ entered_of action self }
     {
         Running {
-            birth: self.birth,
             mode: ACTS,
             live: 0,
             action,
             step: 0,
+            ..self
         }
     }
 
@@ -74,11 +75,8 @@ impl Running {
         ensures { result ≡ stepped_of self }
     {
         Running {
-            birth: self.birth,
-            mode: self.mode,
-            live: self.live,
-            action: self.action,
             step: self.step + 1,
+            ..self
         }
     }
 
@@ -87,11 +85,8 @@ impl Running {
         ensures { result ≡ charting_of self }
     {
         Running {
-            birth: self.birth,
             mode: CHARTS,
-            live: self.live,
-            action: self.action,
-            step: self.step,
+            ..self
         }
     }
 }

@@ -1,5 +1,5 @@
 -- The verdict on a table: "Number 1 comes first. Of 2, 3 and 4, the lowest faulty frame is named, and on it the lowest number."
-use Rattle.std.specs.Prelude.{ℕ, zero, suc, ◌%◌, Bool, not, length, eqb, leb}
+use Rattle.std.specs.Prelude.{ℕ, zero, suc, ◌%◌, Bool, not, length, eqb, leb, Result, Ok, Err}
 use Rattle.rules_walks.specs.Pick.{pick, both}
 use Rattle.rules_tables.specs.Frame.{Table, frames_of}
 use Rattle.rules_tables.specs.Place.{start_of}
@@ -7,8 +7,7 @@ use Rattle.rules_tables.specs.Form.{form_ok}
 use Rattle.rules_tables.specs.Reference.{refers_ok}
 use Rattle.rules_tables.specs.Network.{rules_ok}
 use Rattle.rules_tables.specs.declared.Shape.{Shape}
-use Rattle.rules_tables.specs.declared.Judged.{Judged}
-use Rattle.rules_tables.specs.declared.Judged.TheVariants.{Sound, Refused}
+use Rattle.rules_tables.specs.declared.Refusal.{Refusal}
 
 pub data Verdict : Type 0 where
   accepted : Verdict
@@ -62,19 +61,26 @@ shape_of T =
       links_end = start_of T 12;
     }
 
--- what the check answers
+-- a refusal by document 01's number, with the frame it names
+abbrev pub refusal : ℕ → ℕ → Refusal
+refusal q f = record { number = q; frame = f }
+
+-- what the check answers: the shape of a table that is accepted
+abbrev pub Judged : Type 0
+Judged = Result Shape Refusal
+
 abbrev pub answer : Verdict → Shape → Judged
-answer accepted s = Sound s
-answer (refused q f) s = Refused q f
+answer accepted s = Ok s
+answer (refused q f) s = Err (refusal q f)
 
 abbrev pub judged : Table → Judged
 judged T = answer (judge T) (shape_of T)
 
 -- document 01's number and frame for each case of the answer
 abbrev pub refusal_number : Judged → ℕ
-refusal_number (Sound s) = 0
-refusal_number (Refused q f) = q
+refusal_number (Ok s) = 0
+refusal_number (Err r) = r.number
 
 abbrev pub faulty_frame : Judged → ℕ
-faulty_frame (Sound s) = 0
-faulty_frame (Refused q f) = f
+faulty_frame (Ok s) = 0
+faulty_frame (Err r) = r.frame

@@ -1,16 +1,15 @@
 -- The public calls of the trace: what each answers and leaves, and the statement that its code is proved to meet.
-use Rattle.std.specs.Prelude.{ℕ, ◌≡◌, List, length}
+use Rattle.std.specs.Prelude.{ℕ, ◌≡◌, List, length, Ok}
 use Rattle.std.proofs.lemmas.List.Edits.{sets}
 use Rattle.rules_tables.specs.Frame.{Table}
 use Rattle.rules_tables.specs.Judge.{frame, judge, shape_of}
 use Rattle.rules_store.specs.Word.{Store, now_of}
 use Rattle.rules_calls.specs.Run.{after, bytes, untrue_in}
-use Rattle.rules_calls.specs.declared.Answer.{Answer}
-use Rattle.rules_calls.specs.declared.Answer.TheVariants.{Done, Ran}
-use Rattle.rules_calls.specs.Answer.{moves_of, stop_of, bytes_of, untrue_of, answer_by}
+use Rattle.rules_calls.specs.Answer.{moves_of, stop_of, bytes_of, untrue_of, answer_by, Answer}
 use Rattle.rules_calls.specs.Refusals.{load_refusal, store_refusal}
 use Rattle.rules_calls.specs.Public.{number_by, count_by, Tells}
 use Rattle.rules_calls.specs.Exports.{packed}
+use Rattle.rules_calls.specs.declared.Outcome.TheVariants.{Done, Ran}
 use Rattle.rules_traces.specs.declared.Traced.{Traced}
 use Rattle.rules_traces.specs.declared.Shown.{Shown}
 use Rattle.rules_traces.specs.Run.{trace, traced_made, traced_stop}
@@ -23,7 +22,7 @@ traced_moves T s budget room space = traced_made T (shape_of T) (now_of s) budge
 
 abbrev pub traced_ran : Table → Store → (room space m : ℕ) → Answer
 traced_ran T s room space m =
-    Ran m (length (bytes T (shape_of T) (now_of s) m s)) (traced_stop T (shape_of T) (now_of s) room space s m) (untrue_in T (shape_of T) (now_of s) m s)
+    Ok (Ran m (length (bytes T (shape_of T) (now_of s) m s)) (traced_stop T (shape_of T) (now_of s) room space s m) (untrue_in T (shape_of T) (now_of s) m s))
 
 abbrev pub traced_answer : Table → Store → (budget : ℕ) → (out tr : List ℕ) → Answer
 traced_answer T s budget out tr =
@@ -45,7 +44,7 @@ pub record TracedCall (T : Table) (s : Store) (budget : ℕ) (out tr : List ℕ)
 
 -- ---- the reader, by at most so many frames: refused by 1 to 5, since it reads no word of the store
 abbrev pub show_answer : Table → Store → Answer
-show_answer T s = answer_by (judge T) (load_refusal (shape_of T) s) Done
+show_answer T s = answer_by (judge T) (load_refusal (shape_of T) s) (Ok Done)
 
 -- how many frames it reads, and the line that ends the reading; 0 and 0 where it is refused
 abbrev pub show_count : Table → Store → (text : List ℕ) (frames : ℕ) → ℕ

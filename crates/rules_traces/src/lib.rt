@@ -3,7 +3,7 @@
 
 use rules_calls::Answer;
 
-// The kinds of its frames.
+// The kinds of its frames. They stay numbers: a line of a trace that is read may hold any number there, and what is no kind is told from these (`right_kind`).
 pub const CHART_KIND: usize = 0;
 
 pub const INTERNAL_KIND: usize = 1;

@@ -4,5 +4,6 @@ pub mod Count
 pub mod First
 pub mod Held
 pub mod Pick
+pub mod Ranges
 pub mod Tally
 pub mod Walk

@@ -2,14 +2,13 @@
 use mathlib.Core.Path.{◌≡◌, refl, sym, ap, ◌∙◌}
 use mathlib.Core.List.{List, [], ◌∷◌, ◌++◌, append_assoc}
 use mathlib.Core.Logic.{◌⊎◌, inl, inr, ⊎_elim}
-use Prim.Native.Nat.{ℕ, ◌+◌, ◌-◌, ◌%◌, ◌≤◌, ◌<◌}
+use Prim.Native.Nat.{ℕ, ◌+◌, ◌%◌, ◌≤◌, ◌<◌}
 use native.Mathlib.Numerals.{add-one}
 use native.Mathlib.Omega.{arith}
-use lib.ListN.{length, take, drop, set, length-append, length-set, length-drop}
+use lib.ListN.{length, take, drop, set, length-append, length-set}
 use lib.Seq.{sets, length-sets, sets-eq, length-take-le, take_all, take_at, take-suc-set, take-append-le, set_out}
-use borrow.Author.Tests.{lt-ltb, le-ltb, le-leb, leb-true}
-use lib.Dec.{leb}
-use Rattle.rules_walks.proofs.laws.Pick.{tri, same_test}
+use borrow.Author.Tests.{lt-ltb, le-ltb}
+use Rattle.rules_walks.proofs.laws.Pick.{tri}
 use Rattle.session_dialogue.specs.Standing.{one_more, Tabled, Came}
 
 -- at most, or above
@@ -34,18 +33,6 @@ one_below g n l = rw (lt-ltb g n l) refl
 pub one_full : (g n : ℕ) → n ≤ g → one_more g n ≡ n
 unfolding one_more
 one_full g n l = rw (le-ltb g n l) refl
-
--- the bytes from a place on, as a part of the whole
-pub part_rest : (l : List ℕ) (i : ℕ) → i ≤ length l → (take (length l - i) (drop i l) ≡ drop i l) × (i + length (take (length l - i) (drop i l)) ≡ length l)
-part_rest l i h =
-    let e = take_all (length l - i) (drop i l) (let a = length-drop i l in omega arith) in
-    let a = length-drop i l in
-    (e, ap (λ (X : List ℕ). i + length X) e ∙ (let c : i + length (drop i l) ≡ length l = omega arith in c))
-
--- the test for room, as the code makes it
-pub room_test : (at n m : ℕ) → n ≤ m → leb at (m - n) ≡ leb (at + n) m
-room_test at n m l =
-    same_test (leb at (m - n)) (leb (at + n) m) (λ e. le-leb (at + n) m (let h = leb-true at (m - n) e in omega arith)) (λ e. le-leb at (m - n) (let h = leb-true (at + n) m e in omega arith))
 
 -- ---- the table
 -- the buffer has the whole table, or both are too long

@@ -1,4 +1,5 @@
 -- What each way through the step program leaves, over plain variables.
+use Rattle.std.specs.Prelude.{Ok, Err}
 use mathlib.Core.Path.{◌≡◌, refl, sym, ap, ◌∙◌, subst}
 use mathlib.Core.List.{List, ◌++◌}
 use mathlib.Core.Bool.{Bool, true, false}
@@ -13,20 +14,21 @@ use Rattle.rules_walks.proofs.laws.Pick.{clash}
 use Rattle.rules_numbers.proofs.laws.Sets.{and_then_lem}
 use Rattle.rules_numbers.specs.Bytes.{half_bytes, word_bytes}
 use Rattle.rules_tables.specs.Judge.{judged}
-use Rattle.rules_calls.specs.declared.Answer.{Answer}
-use Rattle.rules_calls.specs.declared.Answer.TheVariants.{Refused, Done, Ran}
-use Rattle.rules_calls.specs.Answer.{number_of, frame_of, moves_of, stop_of, bytes_of}
+use Rattle.rules_calls.specs.Answer.{number_of, frame_of, moves_of, stop_of, bytes_of, Answer}
 use Rattle.rules_calls.specs.Public.{load_answer, load_store, advance_answer, advance_store, arrival_answer, arrival_store, run_store, LoadCall, AdvanceCall, ArrivalCall, RunCall}
 use Rattle.rules_calls.proofs.laws.Public.{run_store_lem, run_output_lem}
+use Rattle.rules_calls.specs.declared.Outcome.TheVariants.{Done, Ran}
 use Rattle.rules_sessions.specs.Line.{line_ok, line_frame, opens}
 use Rattle.rules_sessions.proofs.laws.Text.{line_length}
 use Rattle.rules_sessions.specs.AnswerLine.{answer_frame, answer_line, malformed_line}
 use Rattle.rules_sessions.specs.RecordLines.{records_by}
 use Rattle.rules_sessions.specs.declared.Command.{Command}
+use Rattle.rules_sessions.specs.declared.Command.TheVariants.{Wrong, Advance, Arrival, Value, Run}
 use Rattle.rules_sessions.specs.Command.{line_command}
 use Rattle.session_dialogue.specs.declared.session.Phase.{Phase}
 use Rattle.session_dialogue.specs.declared.session.Phase.TheVariants.{Table, Calls, Values, Stopped}
 use Rattle.session_dialogue.specs.declared.session.Session.{Session}
+use Rattle.session_dialogue.specs.declared.session.Arriving.{Arriving}
 use Rattle.rules_sessions.specs.RunText.{run_text}
 use Rattle.rules_sessions.specs.Session.{Stage, tabled, calling, awaiting, halted, Deed, silent, and_then, malformed, after_load, load_deed, advance_deed, arrival_deed, cleared, run_deed, arrival_by, call_by, value_by, frame_deed, judged_line, line_deed}
 use Rattle.session_dialogue.specs.Standing.{phase_after, is_stopped, Tabled, Came, InTable, InCalls, Stands, Took, Calm}
@@ -70,9 +72,9 @@ module _ (s r : Session) {p : Phase} {at : ℕ} (t : (r.phase ≡ p) × (r.end �
 
     -- after a load
     load_stands : (a : Answer) → p ≡ phase_after a → Stands (after_load a T S) r tb st' W
-    load_stands (Refused q f) e = t.0 ∙ e
-    load_stands Done e = in_calls e
-    load_stands (Ran m b n u) e = in_calls e
+    load_stands (Err q) e = t.0 ∙ e
+    load_stands (Ok Done) e = in_calls e
+    load_stands (Ok (Ran m b n u)) e = in_calls e
 
     told_calls : (P text text' : List ℕ) → p ≡ Calls → text' ≡ sets text s.at P → at ≡ s.at + length P → Took (record { stage = calling T S; text = P }) s r tb st' W text text'
     told_calls P text text' e u v = record { stands = in_calls e; place_is = t.3 ∙ v; text_is = u }
@@ -177,17 +179,17 @@ module _ (T st vs W : List ℕ) (n o birth g : ℕ) (w : Came vs n g W) where
   unfolding arrival_by
   came_not e = sym (choose_false _ _ _ (ne_eqb (length vs) n (λ q. e (w.count ∙ q))))
 
-pub still_waits : (s r : Session) (tb st vs W text : List ℕ) (n o birth g : ℕ) → Came vs n g W → (g ≡ n → ⊥)
-    → (r.phase ≡ Values n o birth g) × (r.end ≡ s.end) × (r.length ≡ s.length) × (r.at ≡ s.at)
-    → Took (arrival_by (take s.end tb) st n o birth vs) s r tb st W text text
-still_waits s r tb st vs W text n o birth g w h t =
+pub still_waits : (s r : Session) (tb st vs W text : List ℕ) (a : Arriving) → Came vs a.number a.got W → (a.got ≡ a.number → ⊥)
+    → (r.phase ≡ Values a) × (r.end ≡ s.end) × (r.length ≡ s.length) × (r.at ≡ s.at)
+    → Took (arrival_by (take s.end tb) st a.number a.event a.birth vs) s r tb st W text text
+still_waits s r tb st vs W text a w h t =
     let c = w.count in
     let m = w.most in
-    let a = t.3 in
-    took_is (came_not (take s.end tb) st vs W n o birth g w h)
+    let p = t.3 in
+    took_is (came_not (take s.end tb) st vs W a.number a.event a.birth a.got w h)
     (record {
       stands = record {
-        phase_is = t.0 ∙ ap (Values n o birth) c;
+        phase_is = t.0 ∙ ap (λ (k : ℕ). Values (record { number = a.number; event = a.event; birth = a.birth; got = k })) c;
         table_is = ap (λ (k : ℕ). take k tb) t.1;
         store_is = refl;
         came = record { count = refl; held = ap (λ (k : ℕ). take k W) (sym c) ∙ w.held; most = omega arith; few = w.few; room = w.room };
@@ -197,7 +199,7 @@ still_waits s r tb st vs W text n o birth g w h t =
       text_is = refl;
     })
   where
-    below : (k : ℕ) → (k ≡ n → ⊥) → k ≤ n → k < n
+    below : (k : ℕ) → (k ≡ a.number → ⊥) → k ≤ a.number → k < a.number
     below k e l = omega arith
 
 -- ---- the table
@@ -242,9 +244,9 @@ took_none g s t st W text w = record { stands = w; place_is = omega arith; text_
 -- the load, and then the line, unless the load was refused
 refused_then : (a : Answer) (T S P L : List ℕ) {s r : Session} {t st W text text' : List ℕ} → is_stopped r.phase ≡ true → Took (record { stage = after_load a T S; text = P }) s r t st W text text'
     → Took (and_then (record { stage = after_load a T S; text = P }) (judged_line L)) s r t st W text text'
-refused_then (Refused q f) T S P L {s} {r} {t} {st} {W} {text} {text'} h w = took_then (judged_line L) w (took_none halted r t st W text' w.stands)
-refused_then Done T S P L h w = clash (ap is_stopped (sym w.stands.phase_is) ∙ h)
-refused_then (Ran m b n u) T S P L h w = clash (ap is_stopped (sym w.stands.phase_is) ∙ h)
+refused_then (Err q) T S P L {s} {r} {t} {st} {W} {text} {text'} h w = took_then (judged_line L) w (took_none halted r t st W text' w.stands)
+refused_then (Ok Done) T S P L h w = clash (ap is_stopped (sym w.stands.phase_is) ∙ h)
+refused_then (Ok (Ran m b n u)) T S P L h w = clash (ap is_stopped (sym w.stands.phase_is) ∙ h)
 
 calls_then : (T S P L : List ℕ) {s r₁ r : Session} {t st₁ W st' text text₁ text' : List ℕ} → Took (record { stage = calling T S; text = P }) s r₁ t st₁ W text text₁
     → (255 ≤ length W → Took (call_by (take r₁.end t) st₁ (line_command L)) r₁ r t st' W text₁ text')
@@ -256,9 +258,9 @@ calls_then T S P L v w =
 went_then : (a : Answer) (T S P L : List ℕ) {s r₁ r : Session} {t st₁ W st' text text₁ text' : List ℕ} → is_stopped r₁.phase ≡ false → Took (record { stage = after_load a T S; text = P }) s r₁ t st₁ W text text₁
     → (255 ≤ length W → Took (call_by (take r₁.end t) st₁ (line_command L)) r₁ r t st' W text₁ text')
     → Took (and_then (record { stage = after_load a T S; text = P }) (judged_line L)) s r t st' W text text'
-went_then (Refused q f) T S P L h v w = clash (sym h ∙ ap is_stopped v.stands)
-went_then Done T S P L h v w = calls_then T S P L v w
-went_then (Ran m b n u) T S P L h v w = calls_then T S P L v w
+went_then (Err q) T S P L h v w = clash (sym h ∙ ap is_stopped v.stands)
+went_then (Ok Done) T S P L h v w = calls_then T S P L v w
+went_then (Ok (Ran m b n u)) T S P L h v w = calls_then T S P L v w
 
 module _ (T st L : List ℕ) where
   pub load_refused : {s r : Session} {t st' W text text' : List ℕ} {b : Bool} → b ≡ is_stopped r.phase → b ≡ true → Took (load_deed T st) s r t st' W text text'
@@ -285,40 +287,21 @@ call_by_lem T st L a b = ap (call_by T st) (sym b ∙ a)
 pub value_by_lem : (T st vs L : List ℕ) (n o birth : ℕ) {c k : Command} → c ≡ line_command L → c ≡ k → value_by T st n o birth vs k ≡ value_by T st n o birth vs (line_command L)
 value_by_lem T st vs L n o birth a b = ap (value_by T st n o birth vs) (sym b ∙ a)
 
+-- any command but a value
+pub value_other : (T st vs L : List ℕ) (n o birth : ℕ) (c : Command) → c ≡ line_command L → ((v : ℕ) → c ≡ Value v → ⊥) → malformed ≡ value_by T st n o birth vs (line_command L)
+value_other T st vs L n o birth c a h = other c h ∙ ap (value_by T st n o birth vs) a
+  where
+    other : (k : Command) → ((v : ℕ) → k ≡ Value v → ⊥) → malformed ≡ value_by T st n o birth vs k
+    other Wrong u = refl
+    other (Advance to) u = refl
+    other (Arrival m e b) u = refl
+    other (Value v) u = absurd (u v refl)
+    other (Run b) u = refl
+
 -- ---- the phase of the code is that of the stage
-abbrev tag : Phase → ℕ
-tag Table = 0
-tag Calls = 1
-tag (Values n o b g) = 2
-tag Stopped = 3
-
-abbrev count_in : Phase → ℕ
-count_in Table = 0
-count_in Calls = 0
-count_in (Values n o b g) = n
-count_in Stopped = 0
-
-abbrev event_in : Phase → ℕ
-event_in Table = 0
-event_in Calls = 0
-event_in (Values n o b g) = o
-event_in Stopped = 0
-
-abbrev birth_in : Phase → ℕ
-birth_in Table = 0
-birth_in Calls = 0
-birth_in (Values n o b g) = b
-birth_in Stopped = 0
-
-abbrev got_in : Phase → ℕ
-got_in Table = 0
-got_in Calls = 0
-got_in (Values n o b g) = g
-got_in Stopped = 0
-
 -- two phases at once
-differ : {A : Type 0} {p q x : Phase} → x ≡ p → x ≡ q → (tag p ≡ tag q → ⊥) → A
-differ a b n = absurd (n (ap tag (sym a ∙ b)))
+differ : {A : Type 0} {p q x : Phase} → x ≡ p → x ≡ q → (p ≡ q → A) → A
+differ a b n = n (sym a ∙ b)
 
 module _ (s : Session) (t st W : List ℕ) where
   -- in the table
@@ -326,43 +309,37 @@ module _ (s : Session) (t st W : List ℕ) where
       → (g : Stage) → Stands g s t st W → Took (f g) s r t' st' W' text text'
   by_table f e k (tabled T q) w =
       took_is (ap (λ (x : List ℕ). f (tabled T x)) w.store_is) (k T (record { phase_is = w.phase_is; table_is = w.table_is; store_is = refl; room = w.room }))
-  by_table f e k (calling T q) w = differ e w.phase_is (λ z. omega arith)
-  by_table f e k (awaiting T q n o b vs) w = differ e w.phase_is (λ z. omega arith)
-  by_table f e k halted w = differ e w (λ z. omega arith)
+  by_table f e k (calling T q) w = differ e w.phase_is (λ z. cc)
+  by_table f e k (awaiting T q n o b vs) w = differ e w.phase_is (λ z. cc)
+  by_table f e k halted w = differ e w (λ z. cc)
 
   -- in the calls
   pub by_calls : (f : Stage → Deed) {r : Session} {t' st' W' text text' : List ℕ} → s.phase ≡ Calls → (255 ≤ length W → InCalls (take s.end t) st s t st W → Took (f (calling (take s.end t) st)) s r t' st' W' text text')
       → (g : Stage) → Stands g s t st W → Took (f g) s r t' st' W' text text'
-  by_calls f e k (tabled T q) w = differ e w.phase_is (λ z. omega arith)
+  by_calls f e k (tabled T q) w = differ e w.phase_is (λ z. cc)
   by_calls f e k (calling T q) w =
       took_is (λ i. f (calling (w.table_is i) (w.store_is i))) (k w.room (record { phase_is = e; table_is = refl; store_is = refl; room = w.room }))
-  by_calls f e k (awaiting T q n o b vs) w = differ e w.phase_is (λ z. omega arith)
-  by_calls f e k halted w = differ e w (λ z. omega arith)
+  by_calls f e k (awaiting T q n o b vs) w = differ e w.phase_is (λ z. cc)
+  by_calls f e k halted w = differ e w (λ z. cc)
 
   -- in the values of an arrival
-  pub by_values : (f : Stage → Deed) {r : Session} {t' st' W' text text' : List ℕ} {n o birth got : ℕ} → s.phase ≡ Values n o birth got
-      → ((vs : List ℕ) → Came vs n got W → got < n → Took (f (awaiting (take s.end t) st n o birth vs)) s r t' st' W' text text')
+  pub by_values : (f : Stage → Deed) {r : Session} {t' st' W' text text' : List ℕ} {a : Arriving} → s.phase ≡ Values a
+      → ((vs : List ℕ) → Came vs a.number a.got W → a.got < a.number → Took (f (awaiting (take s.end t) st a.number a.event a.birth vs)) s r t' st' W' text text')
       → (g : Stage) → Stands g s t st W → Took (f g) s r t' st' W' text text'
-  by_values f e k (tabled T q) w = differ e w.phase_is (λ z. omega arith)
-  by_values f e k (calling T q) w = differ e w.phase_is (λ z. omega arith)
-  by_values f {n = n} {o = o} {birth = birth} {got = got} e k (awaiting T q m u b vs) w =
-      let d : Values n o birth got ≡ Values m u b (length vs) = sym e ∙ w.phase_is in
-      let en : n ≡ m = ap count_in d in
-      let eo : o ≡ u = ap event_in d in
-      let eb : birth ≡ b = ap birth_in d in
-      let eg : got ≡ length vs = ap got_in d in
+  by_values f e k (tabled T q) w = differ e w.phase_is (λ z. cc)
+  by_values f e k (calling T q) w = differ e w.phase_is (λ z. cc)
+  by_values f {a = a} e k (awaiting T q m u b vs) w =
+      let d : Values a ≡ Values (record { number = m; event = u; birth = b; got = length vs }) = sym e ∙ w.phase_is in
+      let i : a ≡ record { number = m; event = u; birth = b; got = length vs } = cc in
       let c = w.came in
-      let a = c.most in
-      let l = c.few in
-      let h = w.fewer in
-      took_is (λ i. f (awaiting (w.table_is i) (w.store_is i) (en i) (eo i) (eb i) vs))
-      (k vs (record { count = eg; held = ap (λ (j : ℕ). take j W) eg ∙ c.held; most = omega arith; few = omega arith; room = c.room }) (omega arith))
-  by_values f e k halted w = differ e w (λ z. omega arith)
+      took_is (λ j. f (awaiting (w.table_is j) (w.store_is j) (i j).number (i j).event (i j).birth vs))
+      (k vs (subst (λ (x : Arriving). Came vs x.number x.got W) (sym i) c) (subst (λ (x : Arriving). x.got < x.number) (sym i) w.fewer))
+  by_values f e k halted w = differ e w (λ z. cc)
 
   -- after the program has stopped
   pub by_stopped : (f : Stage → Deed) {r : Session} {t' st' W' text text' : List ℕ} → s.phase ≡ Stopped → Took (f halted) s r t' st' W' text text'
       → (g : Stage) → Stands g s t st W → Took (f g) s r t' st' W' text text'
-  by_stopped f e k (tabled T q) w = differ e w.phase_is (λ z. omega arith)
-  by_stopped f e k (calling T q) w = differ e w.phase_is (λ z. omega arith)
-  by_stopped f e k (awaiting T q n o b vs) w = differ e w.phase_is (λ z. omega arith)
+  by_stopped f e k (tabled T q) w = differ e w.phase_is (λ z. cc)
+  by_stopped f e k (calling T q) w = differ e w.phase_is (λ z. cc)
+  by_stopped f e k (awaiting T q n o b vs) w = differ e w.phase_is (λ z. cc)
   by_stopped f e k halted w = k

@@ -1,29 +1,27 @@
 -- What a session of the code and its buffers stand for: a stage of the definition, the line so far, and what was printed. The buffers have 49,164 bytes for the
 -- table, one frame more than a table may have; 255 values, as many as an arrival's flag counts; 25 characters, one more than a line may have. What does not go
 -- into a buffer is dropped: a table that is too long is refused by its length, and a line that is too long is of a wrong form, also by what is left of them.
-use Rattle.std.specs.Prelude.{◌≡◌, List, ◌++◌, Bool, true, false, ℕ, ◌+◌, ◌%◌, ◌≤◌, ◌<◌, ltb, length, take}
+use Rattle.std.specs.Prelude.{◌≡◌, List, ◌++◌, Bool, true, false, ℕ, ◌+◌, ◌%◌, ◌≤◌, ◌<◌, ltb, length, take, Ok, Err}
 use Rattle.std.proofs.lemmas.List.Edits.{sets}
 use Rattle.rules_walks.specs.Pick.{pick}
-use Rattle.rules_calls.specs.declared.Answer.{Answer}
-use Rattle.rules_calls.specs.declared.Answer.TheVariants.{Refused, Done, Ran}
 use Rattle.session_dialogue.specs.declared.session.Phase.{Phase}
 use Rattle.session_dialogue.specs.declared.session.Phase.TheVariants.{Table, Calls, Values, Stopped}
 use Rattle.session_dialogue.specs.declared.session.Session.{Session}
 use Rattle.session_dialogue.specs.declared.feeding.Fed.{Fed}
 use Rattle.rules_sessions.specs.Session.{Stage, tabled, calling, awaiting, halted, Deed}
 use Rattle.rules_sessions.specs.Reading.{Reading, after_bytes, closed}
+use Rattle.rules_calls.specs.Answer.{Answer}
 
 -- ---- the parts of a session
 -- the phase after a load
 abbrev pub phase_after : Answer → Phase
-phase_after (Refused q f) = Stopped
-phase_after Done = Calls
-phase_after (Ran m b n u) = Calls
+phase_after (Err r) = Stopped
+phase_after (Ok d) = Calls
 
 abbrev pub is_stopped : Phase → Bool
 is_stopped Table = false
 is_stopped Calls = false
-is_stopped (Values n o b g) = false
+is_stopped (Values a) = false
 is_stopped Stopped = true
 
 -- one more, up to `most`
@@ -60,7 +58,7 @@ pub record InCalls (T s : List ℕ) (r : Session) (t st W : List ℕ) : Type 0 w
   pub room : 255 ≤ length W
 
 pub record InValues (T s : List ℕ) (n o birth : ℕ) (vs : List ℕ) (r : Session) (t st W : List ℕ) : Type 0 where
-  pub phase_is : r.phase ≡ Values n o birth (length vs)
+  pub phase_is : r.phase ≡ Values (record { number = n; event = o; birth = birth; got = length vs })
   pub table_is : take r.end t ≡ T
   pub store_is : st ≡ s
   pub came : Came vs n (length vs) W

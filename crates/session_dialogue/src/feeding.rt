@@ -4,9 +4,9 @@ ghost use Rattle.rules_sessions.specs.Reading.{Reading, after_byte};
 ghost use Rattle.session_dialogue.specs.Standing.{Follows, Feeds, Finishes};
 
 use crate::line::{take_line, take_none};
-use crate::part::{has_room, one_more, put_character};
+use crate::part::{has_room, one_more};
 use crate::session::Session;
-use lines::part::stretch;
+use lines::part::{put_at, stretch};
 
 // What one byte may print at most.
 pub const BYTE_ROOM: usize = 12338;
@@ -41,7 +41,7 @@ fn take_byte(
         return r.with_line(0);
     }
     let longer = one_more(length, line.len());
-    put_character(line, length, b);
+    put_at(line, length, b);
     s.with_line(longer)
 }
 
@@ -59,14 +59,18 @@ pub fn feed(
 {
     let n = piece.len();
     let mut s = start;
-    let mut i = 0;
-    while i < n && has_room(text, s.at, BYTE_ROOM) {
+    for i in 0..n {
+        if !has_room(text, s.at, BYTE_ROOM) {
+            return Fed {
+                session: s,
+                taken: i,
+            };
+        }
         s = take_byte(t, store, values, line, piece[i], text, s);
-        i += 1;
     }
     Fed {
         session: s,
-        taken: i,
+        taken: n,
     }
 }
 

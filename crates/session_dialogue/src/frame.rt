@@ -4,6 +4,7 @@ ghost use Rattle.rules_sessions.specs.Line.{line_ok, line_frame};
 ghost use Rattle.rules_sessions.specs.Session.{frame_deed};
 ghost use Rattle.session_dialogue.specs.Standing.{Tabled, InTable, Took, Calm};
 
+use crate::part::has_room;
 use crate::session::Session;
 use crate::told::malformed;
 use lines::line::{line_ok, put_frame};
@@ -14,11 +15,7 @@ fn keep(t: &mut [u8], line: &[u8], end: usize) -> usize
     requires { line_ok line.now ≡ true }
     ensures { (T : List ℕ) → Tabled T end t.old → Tabled (T ++ line_frame line.now) result t.new }
 {
-    let n = t.len();
-    if n < 12 {
-        return end;
-    }
-    if n - 12 < end {
+    if !has_room(t, end, 12) {
         return end;
     }
     put_frame(line, t, end);

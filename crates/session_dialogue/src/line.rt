@@ -63,13 +63,10 @@ pub fn take_line(
         → Took (line_deed g line.now) s result t.new store.new values.new text.old text.new)
         × Calm 12338 s result }
 {
-    let phase = s.phase;
-    match phase {
+    match s.phase {
         Phase::Table => early_line(t, store, values, line, text, s),
         Phase::Calls => call_line(t, store, values, line, text, s),
-        Phase::Values(n, event, birth, got) => {
-            value_line(t, store, values, line, n, event, birth, got, text, s)
-        }
+        Phase::Values(a) => value_line(t, store, values, line, a, text, s),
         Phase::Stopped => s,
     }
 }
@@ -80,11 +77,10 @@ pub fn take_none(t: &[u8], store: &mut [u32], text: &mut [u8], s: Session) -> Se
     ensures { ((g : Stage) (W : List ℕ) → Stands g s t.now store.old W → Took (end_deed g) s result t.now store.new W text.old text.new)
         × Calm 25 s result }
 {
-    let phase = s.phase;
-    match phase {
+    match s.phase {
         Phase::Table => tell_load(t, store, text, s),
         Phase::Calls => s,
-        Phase::Values(_, _, _, _) => malformed(text, s),
+        Phase::Values(_) => malformed(text, s),
         Phase::Stopped => s,
     }
 }

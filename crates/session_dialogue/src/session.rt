@@ -2,6 +2,17 @@
 ghost use Rattle.std.specs.Prelude.{◌≡◌};
 ghost use Rattle.session_dialogue.specs.Standing.{is_stopped};
 
+// An arrival whose values come line by line.
+#[derive(Clone, Copy)]
+pub struct Arriving {
+    // How many values it has.
+    pub number: usize,
+    pub event: usize,
+    pub birth: u32,
+    // How many have come.
+    pub got: usize,
+}
+
 // What the next line is read as.
 #[derive(Clone, Copy)]
 pub enum Phase {
@@ -9,8 +20,8 @@ pub enum Phase {
     Table,
     // A call.
     Calls,
-    // A value of an arrival: their number, the event, its birth, and how many have come.
-    Values(usize, usize, u32, usize),
+    // A value of an arrival.
+    Values(Arriving),
     // Nothing: the program has stopped.
     Stopped,
 }
@@ -43,51 +54,28 @@ impl Session {
     pub fn told(self, phase: Phase, at: usize) -> Self
         ensures { (result.phase ≡ phase) × (result.end ≡ self.end) × (result.length ≡ self.length) × (result.at ≡ at) }
     {
-        Session {
-            phase: phase,
-            end: self.end,
-            length: self.length,
-            at: at,
-        }
+        Session { phase, at, ..self }
     }
 
     // The table's frames end here.
     pub fn with_end(self, end: usize) -> Self
         ensures { (result.phase ≡ self.phase) × (result.end ≡ end) × (result.length ≡ self.length) × (result.at ≡ self.at) }
     {
-        let phase = self.phase;
-        Session {
-            phase: phase,
-            end: end,
-            length: self.length,
-            at: self.at,
-        }
+        Session { end, ..self }
     }
 
     // So many characters of the line have come.
     pub fn with_line(self, length: usize) -> Self
         ensures { (result.phase ≡ self.phase) × (result.end ≡ self.end) × (result.length ≡ length) × (result.at ≡ self.at) }
     {
-        let phase = self.phase;
-        Session {
-            phase: phase,
-            end: self.end,
-            length: length,
-            at: self.at,
-        }
+        Session { length, ..self }
     }
 
     // The text is written.
     pub fn written(self) -> Self
         ensures { (result.phase ≡ self.phase) × (result.end ≡ self.end) × (result.length ≡ self.length) × (result.at ≡ 0) }
     {
-        let phase = self.phase;
-        Session {
-            phase: phase,
-            end: self.end,
-            length: self.length,
-            at: 0,
-        }
+        Session { at: 0, ..self }
     }
 
     // The program stops.
@@ -96,21 +84,27 @@ impl Session {
     {
         Session {
             phase: Phase::Stopped,
-            end: self.end,
-            length: self.length,
-            at: self.at,
+            ..self
         }
     }
 
     pub fn stopped(self) -> bool
         ensures { result ≡ is_stopped self.phase }
     {
-        let phase = self.phase;
-        match phase {
-            Phase::Table => false,
-            Phase::Calls => false,
-            Phase::Values(_, _, _, _) => false,
-            Phase::Stopped => true,
-        }
+        matches!(self.phase, Phase::Stopped)
     }
+}
+
+// The buffers that a program lends to a session; the store has as many words as the program gives it.
+#[derive(Drop)]
+pub struct Buffers<const STORE: usize> {
+    // One frame more than a table may have, so that a longer one is refused by its length.
+    pub table: [u8; 49164],
+    pub store: [u32; STORE],
+    // An arrival's flag counts at most 255 values.
+    pub values: [u32; 255],
+    // One character more than a line may have, so that a longer one is of a wrong form.
+    pub line: [u8; 25],
+    // Room for what is printed, and waits to be written.
+    pub text: [u8; 65536],
 }

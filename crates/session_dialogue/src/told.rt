@@ -9,11 +9,11 @@ ghost use Rattle.rules_sessions.specs.Session.{malformed as «malformed_deed», 
 ghost use Rattle.session_dialogue.specs.Standing.{phase_after, one_more, Tabled, Came, Took, Calm};
 ghost use Rattle.lines.specs.Printed.{Printed};
 
-use crate::part::{one_more, put_value, words};
-use crate::session::{Phase, Session};
+use crate::part::one_more;
+use crate::session::{Arriving, Phase, Session};
 use calls::{advance, arrival, load, run};
-use lines::part::stretch;
-use rules_calls::Answer;
+use lines::part::{put_at, stretch};
+use rules_calls::{Answer, Answered};
 use rules_sessions::Command;
 use session_lines::answer::{put_answer, put_malformed};
 use session_lines::command::line_command;
@@ -36,9 +36,8 @@ fn after_load(a: Answer) -> Phase
     ensures { result ≡ phase_after a }
 {
     match a {
-        Answer::Refused(_, _) => Phase::Stopped,
-        Answer::Done => Phase::Calls,
-        Answer::Ran(_, _, _, _) => Phase::Calls,
+        Err(_) => Phase::Stopped,
+        Ok(_) => Phase::Calls,
     }
 }
 
@@ -64,24 +63,28 @@ fn tell_advance(t: &[u8], store: &mut [u32], to: u32, text: &mut [u8], s: Sessio
     s.told(Phase::Calls, at)
 }
 
-// 81 with all its values, the first n of `values`.
+// 81 with all its values, the first of `values`.
 fn tell_arrival(
     t: &[u8],
     store: &mut [u32],
     values: &[u32],
-    n: usize,
-    event: usize,
-    birth: u32,
+    a: Arriving,
     text: &mut [u8],
     s: Session,
 ) -> Session
     requires { s.at + 25 ≤ length text.old }
     ensures { (255 ≤ length values.now
-        → Took (arrival_deed (take s.end t.now) store.old event birth (take n values.now)) s result t.now store.new values.now text.old text.new)
+        → Took (arrival_deed (take s.end t.now) store.old a.event a.birth (take a.number values.now)) s result t.now store.new values.now text.old text.new)
         × Calm 25 s result }
 {
-    let a = arrival(stretch(t, s.end), store, event, birth, words(values, n));
-    let at = put_answer(text, s.at, a);
+    let answer = arrival(
+        stretch(t, s.end),
+        store,
+        a.event,
+        a.birth,
+        stretch(values, a.number),
+    );
+    let at = put_answer(text, s.at, answer);
     s.told(Phase::Calls, at)
 }
 
@@ -107,27 +110,24 @@ fn tell_run(t: &[u8], store: &mut [u32], budget: u32, text: &mut [u8], s: Sessio
     s.told(Phase::Calls, at)
 }
 
-// An arrival is made when its values have come, n of them; until then it waits.
+// An arrival is made when all its values have come; until then it waits.
 fn await_values(
     t: &[u8],
     store: &mut [u32],
     values: &[u32],
-    n: usize,
-    event: usize,
-    birth: u32,
-    got: usize,
+    a: Arriving,
     text: &mut [u8],
     s: Session,
 ) -> Session
     requires { s.at + 25 ≤ length text.old }
-    ensures { ((vs : List ℕ) → Came vs n got values.now
-        → Took (arrival_by (take s.end t.now) store.old n event birth vs) s result t.now store.new values.now text.old text.new)
+    ensures { ((vs : List ℕ) → Came vs a.number a.got values.now
+        → Took (arrival_by (take s.end t.now) store.old a.number a.event a.birth vs) s result t.now store.new values.now text.old text.new)
         × Calm 25 s result }
 {
-    if got == n {
-        return tell_arrival(t, store, values, n, event, birth, text, s);
+    if a.got == a.number {
+        return tell_arrival(t, store, values, a, text, s);
     }
-    s.told(Phase::Values(n, event, birth, got), s.at)
+    s.told(Phase::Values(a), s.at)
 }
 
 // A line read as a call.
@@ -144,14 +144,18 @@ pub fn call_line(
         → Took (call_by (take s.end t.now) store.old (line_command line.now)) s result t.now store.new values.now text.old text.new)
         × Calm 12313 s result }
 {
-    let c = line_command(line);
-    match c {
-        Command::Wrong => malformed(text, s),
+    match line_command(line) {
+        Command::Wrong | Command::Value(_) => malformed(text, s),
         Command::Advance(to) => tell_advance(t, store, to, text, s),
-        Command::Arrival(n, event, birth) => {
-            await_values(t, store, values, n, event, birth, 0, text, s)
+        Command::Arrival(number, event, birth) => {
+            let a = Arriving {
+                number,
+                event,
+                birth,
+                got: 0,
+            };
+            await_values(t, store, values, a, text, s)
         }
-        Command::Value(_) => malformed(text, s),
         Command::Run(budget) => tell_run(t, store, budget, text, s),
     }
 }
@@ -162,20 +166,18 @@ fn got_value(
     store: &mut [u32],
     values: &mut [u32],
     v: u32,
-    n: usize,
-    event: usize,
-    birth: u32,
-    got: usize,
+    a: Arriving,
     text: &mut [u8],
     s: Session,
 ) -> Session
     requires { s.at + 25 ≤ length text.old }
-    ensures { ((vs : List ℕ) → Came vs n (one_more got n) (set values.old got v)
-        → Took (arrival_by (take s.end t.now) store.old n event birth vs) s result t.now store.new values.new text.old text.new)
+    ensures { ((vs : List ℕ) → Came vs a.number (one_more a.got a.number) (set values.old a.got v)
+        → Took (arrival_by (take s.end t.now) store.old a.number a.event a.birth vs) s result t.now store.new values.new text.old text.new)
         × Calm 25 s result }
 {
-    put_value(values, got, v);
-    await_values(t, store, values, n, event, birth, one_more(got, n), text, s)
+    put_at(values, a.got, v);
+    let got = one_more(a.got, a.number);
+    await_values(t, store, values, Arriving { got, ..a }, text, s)
 }
 
 // A line read as a value.
@@ -184,24 +186,17 @@ pub fn value_line(
     store: &mut [u32],
     values: &mut [u32],
     line: &[u8],
-    n: usize,
-    event: usize,
-    birth: u32,
-    got: usize,
+    a: Arriving,
     text: &mut [u8],
     s: Session,
 ) -> Session
     requires { s.at + 25 ≤ length text.old }
-    ensures { ((vs : List ℕ) → Came vs n got values.old → got < n
-        → Took (value_by (take s.end t.now) store.old n event birth vs (line_command line.now)) s result t.now store.new values.new text.old text.new)
+    ensures { ((vs : List ℕ) → Came vs a.number a.got values.old → a.got < a.number
+        → Took (value_by (take s.end t.now) store.old a.number a.event a.birth vs (line_command line.now)) s result t.now store.new values.new text.old text.new)
         × Calm 25 s result }
 {
-    let c = line_command(line);
-    match c {
-        Command::Wrong => malformed(text, s),
-        Command::Advance(_) => malformed(text, s),
-        Command::Arrival(_, _, _) => malformed(text, s),
-        Command::Value(v) => got_value(t, store, values, v, n, event, birth, got, text, s),
-        Command::Run(_) => malformed(text, s),
-    }
+    let Command::Value(v) = line_command(line) else {
+        return malformed(text, s);
+    };
+    got_value(t, store, values, v, a, text, s)
 }

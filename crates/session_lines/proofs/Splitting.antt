@@ -1,4 +1,5 @@
 -- A run's bytes taken apart into records, one line each: what a loop over them has printed so far.
+use Rattle.std.specs.Prelude.{Ok}
 use mathlib.Core.Path.{◌≡◌, refl, sym, ap, ◌∙◌}
 use mathlib.Core.List.{List, [], ◌++◌, append_assoc, append-nil}
 use Prim.Native.Nat.{ℕ, zero, suc, ◌+◌, ◌*◌, ◌-◌, ◌≤◌, ◌<◌}
@@ -10,17 +11,14 @@ use Rattle.rules_walks.proofs.laws.Choose.{choose_true, choose_false}
 use Rattle.rules_numbers.specs.Bytes.{half_at}
 use Rattle.rules_numbers.proofs.laws.Sets.{and_then_lem}
 use Rattle.rules_tables.specs.declared.Shape.{Shape}
-use Rattle.rules_tables.specs.declared.Judged.{Judged}
-use Rattle.rules_tables.specs.declared.Judged.TheVariants.{Sound, Refused}
-use Rattle.rules_tables.specs.Judge.{judged}
+use Rattle.rules_tables.specs.Judge.{judged, Judged}
 use Rattle.rules_tables.proofs.laws.Judge.{was_sound}
 use Rattle.rules_tables.proofs.laws.Accepted.{accepted_means}
 use Rattle.rules_tables.specs.Good.{Good}
 use Rattle.rules_tables.proofs.laws.Good.{good}
-use Rattle.rules_moves.specs.Record.{record_size}
 use Rattle.rules_sessions.specs.Text.{line_of}
 use Rattle.rules_sessions.proofs.laws.Text.{line_length}
-use Rattle.rules_sessions.specs.RecordLines.{record_lines, records_by}
+use Rattle.rules_sessions.specs.RecordLines.{record_lines}
 
 module _ (size : ℕ → ℕ) (B : List ℕ) where
   abbrev whole : List ℕ
@@ -85,18 +83,6 @@ module _ (size : ℕ → ℕ) (B : List ℕ) where
 
 -- ---- by what the check says of the table
 module _ (T B : List ℕ) {j : Judged} (told : j ≡ judged T) where
-  pub records_none : {q f : ℕ} (t : List ℕ) (at : ℕ) → j ≡ Refused q f → (t ≡ sets t at (records_by (judged T) T B)) × (at ≤ at + 3 * length B) × (at ≡ at + length (records_by (judged T) T B))
-  records_none t at e =
-      let g : [] ≡ records_by (judged T) T B = ap (λ (k : Judged). records_by k T B) (sym e ∙ told) in
-      let h : 0 ≡ length (records_by (judged T) T B) = ap length g in
-      (ap (sets t at) g, omega arith, omega arith)
-
-  module _ {S : Shape} (sound : j ≡ Sound S) where
+  module _ {S : Shape} (sound : j ≡ Ok S) where
     pub ready : Good T S
     ready = let w = was_sound T S (sym told ∙ sound) in rw w.1 (good T (accepted_means T w.0))
-
-    pub records_some : (t t' : List ℕ) (at r : ℕ) → (t' ≡ sets t at (record_lines (record_size T S) B 0 (length B))) × (r ≤ at + 3 * length B) × (r ≡ at + length (record_lines (record_size T S) B 0 (length B)))
-        → (t' ≡ sets t at (records_by (judged T) T B)) × (r ≤ at + 3 * length B) × (r ≡ at + length (records_by (judged T) T B))
-    records_some t t' at r w =
-        let g : record_lines (record_size T S) B 0 (length B) ≡ records_by (judged T) T B = ap (λ (k : Judged). records_by k T B) (sym sound ∙ told) in
-        (w.0 ∙ ap (sets t at) g, w.1, w.2 ∙ ap (λ (l : List ℕ). at + length l) g)

@@ -6,7 +6,7 @@ ghost use Rattle.rules_sessions.specs.Text.{line_of};
 
 use lines::text::put_line;
 use numbers::bytes::{put_half, put_word};
-use rules_calls::Answer;
+use rules_calls::{Answer, Answered};
 
 // The kind of an answer's frame.
 const ANSWER: u8 = 0xC0;
@@ -41,11 +41,15 @@ pub fn put_answer(text: &mut [u8], at: usize, a: Answer) -> usize
     requires { at + 25 ≤ length text.old }
     ensures { (text.new ≡ sets text.old at (answer_line a)) × (result ≡ at + 25) }
 {
-    match a {
-        Answer::Refused(number, frame) => put_numbers(text, at, number, frame, 0, 0, 0),
-        Answer::Done => put_numbers(text, at, 0, 0, 0, 0, 0),
-        Answer::Ran(moves, bytes, stop, _) => put_numbers(text, at, 0, 0, moves, stop, bytes),
-    }
+    put_numbers(
+        text,
+        at,
+        a.number(),
+        a.frame(),
+        a.moves(),
+        a.stop(),
+        a.bytes(),
+    )
 }
 
 // The line for a line of any other form or place: C0FF and twenty zeros.

@@ -1,5 +1,5 @@
 // What a line after the table asks for.
-ghost use Rattle.std.specs.Prelude.{◌≡◌, ◌+◌, ◌*◌, ◌<◌};
+ghost use Rattle.std.specs.Prelude.{◌≡◌, ◌<◌};
 ghost use Rattle.rules_tables.specs.Frame.{frames_of};
 ghost use Rattle.rules_sessions.specs.Command.{long_at, last_clear, plain as «plain_at», advance_of, arrival_of, value_of, run_of, command_of, line_command};
 
@@ -17,6 +17,7 @@ const VALUE: usize = 0x82;
 const RUN: usize = 0x83;
 
 // Fields j and j + 1 as one number, high half first.
+#[tactic(auto, unfolding(rules_sessions::specs::Command::long_at))]
 fn long(frame: &[u8], j: usize) -> u32
     requires { (0 < frames_of frame.now) × (j < 4) }
     ensures { result ≡ long_at frame.now j }
@@ -25,31 +26,25 @@ fn long(frame: &[u8], j: usize) -> u32
 }
 
 // Fields d and e are zero.
+#[tactic(auto, unfolding(rules_sessions::specs::Command::last_clear))]
 fn last_clear(frame: &[u8]) -> bool
     requires { 0 < frames_of frame.now }
     ensures { result ≡ last_clear frame.now }
 {
-    if field(frame, 0, 3) != 0 {
-        return false;
-    }
-    field(frame, 0, 4) == 0
+    field(frame, 0, 3) == 0 && field(frame, 0, 4) == 0
 }
 
 // Flag and fields c, d and e are zero.
+#[tactic(auto, unfolding(rules_sessions::specs::Command::plain))]
 fn plain(frame: &[u8]) -> bool
     requires { 0 < frames_of frame.now }
     ensures { result ≡ «plain_at» frame.now }
 {
-    if flag(frame, 0) != 0 {
-        return false;
-    }
-    if field(frame, 0, 2) != 0 {
-        return false;
-    }
-    last_clear(frame)
+    flag(frame, 0) == 0 && field(frame, 0, 2) == 0 && last_clear(frame)
 }
 
 // 80 advance: a, b time.
+#[tactic(auto, unfolding(rules_sessions::specs::Command::advance_of))]
 fn advance_of(frame: &[u8]) -> Command
     requires { 0 < frames_of frame.now }
     ensures { result ≡ advance_of frame.now }
@@ -62,6 +57,7 @@ fn advance_of(frame: &[u8]) -> Command
 }
 
 // 81 arrival: flag number of values, a event, b, c birth.
+#[tactic(auto, unfolding(rules_sessions::specs::Command::arrival_of))]
 fn arrival_of(frame: &[u8]) -> Command
     requires { 0 < frames_of frame.now }
     ensures { result ≡ arrival_of frame.now }
@@ -74,17 +70,12 @@ fn arrival_of(frame: &[u8]) -> Command
 }
 
 // 82: b, c value.
+#[tactic(auto, unfolding(rules_sessions::specs::Command::value_of))]
 fn value_of(frame: &[u8]) -> Command
     requires { 0 < frames_of frame.now }
     ensures { result ≡ value_of frame.now }
 {
-    if flag(frame, 0) != 0 {
-        return Command::Wrong;
-    }
-    if field(frame, 0, 0) != 0 {
-        return Command::Wrong;
-    }
-    if last_clear(frame) {
+    if flag(frame, 0) == 0 && field(frame, 0, 0) == 0 && last_clear(frame) {
         Command::Value(long(frame, 1))
     } else {
         Command::Wrong
@@ -92,6 +83,7 @@ fn value_of(frame: &[u8]) -> Command
 }
 
 // 83 run: a, b budget.
+#[tactic(auto, unfolding(rules_sessions::specs::Command::run_of))]
 fn run_of(frame: &[u8]) -> Command
     requires { 0 < frames_of frame.now }
     ensures { result ≡ run_of frame.now }
@@ -104,12 +96,12 @@ fn run_of(frame: &[u8]) -> Command
 }
 
 // What a frame asks for.
+#[tactic(auto, unfolding(rules_sessions::specs::Command::command_of))]
 fn command_of(frame: &[u8]) -> Command
     requires { 0 < frames_of frame.now }
     ensures { result ≡ command_of frame.now }
 {
-    let k = kind(frame, 0);
-    match k {
+    match kind(frame, 0) {
         ADVANCE => advance_of(frame),
         ARRIVAL => arrival_of(frame),
         VALUE => value_of(frame),
@@ -119,6 +111,7 @@ fn command_of(frame: &[u8]) -> Command
 }
 
 // What a line asks for.
+#[tactic(auto, unfolding(rules_sessions::specs::Command::line_command))]
 pub fn line_command(line: &[u8]) -> Command
     ensures { result ≡ line_command line.now }
 {

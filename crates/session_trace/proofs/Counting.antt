@@ -12,7 +12,7 @@ use borrow.Author.Tests.{eq-eqb, ne_eqb, lt-ltb, le-ltb, leb-true}
 use Rattle.rules_walks.proofs.laws.Pick.{both_left, both_right}
 use Rattle.rules_walks.specs.All.{all_to}
 use Rattle.rules_walks.proofs.laws.All.{all_none, all_more, all_stop}
-use Rattle.session_trace.specs.declared.number.Number.TheVariants.{Is, Wrong}
+use Rattle.std.specs.Prelude.{Some, None}
 use Rattle.session_trace.specs.Number.{is_decimal, number_to, decimal_at, number_of}
 use Rattle.session_trace.proofs.Decimal.{power_grows}
 
@@ -35,36 +35,36 @@ module _ (L : List ℕ) where
   pub counted_fits : {i n : ℕ} → Counted i n → i < 18 → n < 100000000000000000
   counted_fits {i} w l = let h = w.small in let p = power_grows i 17 (omega arith) in omega arith
 
-  pub counted_more : {i n b : ℕ} → Counted i n → b ≡ get_or L i 0 → is_decimal b ≡ true → Counted (i + 1) (n * 10 + (b - 48))
+  pub counted_more : {i n b d : ℕ} → Counted i n → b ≡ get_or L i 0 → is_decimal b ≡ true → d ≡ b - 48 → Counted (i + 1) (n * 10 + d)
   unfolding number_to decimal_at
-  counted_more {i} {n} {b} w q e =
+  counted_more {i} {n} {b} w q e f =
       let m = decimal_most b e in
       let h = m.1 in
       let g = m.0 in
       let p = pow-succ' 10 i in
       let s = w.small in
       record {
-        counts = rw (add-one i) (λ t. w.counts t * 10 + (q t - 48));
+        counts = rw (add-one i) (λ t. w.counts t * 10 + (f ∙ ap (λ (x : ℕ). x - 48) q) t);
         small = rw (add-one i) (omega arith);
         all = all_more (decimal_at L) i w.all (ap is_decimal (sym q) ∙ e);
       }
 
   -- ---- what is answered
-  pub number_none : length L ≡ 0 → Wrong ≡ number_of L
+  pub number_none : length L ≡ 0 → None ≡ number_of L
   unfolding number_of
   number_none e = rw (eq-eqb (length L) 0 e)
 
-  pub number_long : (length L ≡ 0 → ⊥) → 18 < length L → Wrong ≡ number_of L
+  pub number_long : (length L ≡ 0 → ⊥) → 18 < length L → None ≡ number_of L
   unfolding number_of
   number_long n l = rw (ne_eqb (length L) 0 n, lt-ltb 18 (length L) l)
 
-  pub number_bad : {i b : ℕ} → (length L ≡ 0 → ⊥) → length L ≤ 18 → i < length L → b ≡ get_or L i 0 → is_decimal b ≡ false → Wrong ≡ number_of L
+  pub number_bad : {i b : ℕ} → (length L ≡ 0 → ⊥) → length L ≤ 18 → i < length L → b ≡ get_or L i 0 → is_decimal b ≡ false → None ≡ number_of L
   unfolding number_of decimal_at
   number_bad {i} n l h q e = rw (ne_eqb (length L) 0 n, le-ltb 18 (length L) l, all_stop (decimal_at L) (length L) i h (ap is_decimal (sym q) ∙ e))
 
-  pub number_is : {i n : ℕ} → (length L ≡ 0 → ⊥) → length L ≤ 18 → length L ≡ i → Counted i n → Is n ≡ number_of L
+  pub number_is : {i n : ℕ} → (length L ≡ 0 → ⊥) → length L ≤ 18 → length L ≡ i → Counted i n → Some n ≡ number_of L
   unfolding number_of
   number_is {i} {n} m l e w =
       let a : all_to (decimal_at L) (length L) ≡ true = ap (all_to (decimal_at L)) e ∙ w.all in
       let c : n ≡ number_to L (length L) = w.counts ∙ ap (number_to L) (sym e) in
-      rw (ne_eqb (length L) 0 m, le-ltb 18 (length L) l, a) (ap Is c)
+      rw (ne_eqb (length L) 0 m, le-ltb 18 (length L) l, a) (ap Some c)

@@ -1,5 +1,4 @@
 pub mod laws
-pub mod Copying
 pub mod Counting
 pub mod Decimal
 pub mod Lining

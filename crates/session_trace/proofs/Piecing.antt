@@ -1,4 +1,5 @@
 -- A traced run makes no more moves than its budget and writes no more bytes than its output has; a reading reads no more frames than are asked for.
+use Rattle.std.specs.Prelude.{Ok, Err}
 use mathlib.Core.Path.{◌≡◌, refl, sym, ap, ◌∙◌, subst}
 use mathlib.Core.List.{List}
 use Prim.Native.Nat.{ℕ, ◌+◌, ◌*◌, ◌/◌, ◌≤◌}
@@ -9,10 +10,9 @@ use lib.Seq.{sets}
 use Rattle.rules_walks.proofs.laws.Pick.{by_test, both_left}
 use Rattle.rules_walks.proofs.laws.Held.{held, held_is}
 use Rattle.rules_tables.specs.Frame.{Table}
-use Rattle.rules_tables.specs.Judge.{Verdict, accepted, refused, judge, shape_of, judged}
+use Rattle.rules_tables.specs.Judge.{Verdict, accepted, refused, judge, shape_of, judged, Judged}
 use Rattle.rules_tables.specs.declared.Shape.{Shape}
-use Rattle.rules_tables.specs.declared.Judged.{Judged}
-use Rattle.rules_tables.specs.declared.Judged.TheVariants.{Sound, Refused}
+use Rattle.rules_tables.specs.declared.Refusal.{Refusal}
 use Rattle.rules_tables.specs.Good.{Good}
 use Rattle.rules_tables.proofs.laws.Good.{good}
 use Rattle.rules_tables.proofs.laws.Judge.{was_sound}
@@ -99,11 +99,11 @@ lines_printed n B text text' {X} {r} {most} x e l u =
 
 -- ---- by what the check says of the table
 module _ (T : Table) {j : Judged} (told : j ≡ judged T) (s : Store) (n : ℕ) where
-  pub store_none : {q f : ℕ} (t : List ℕ) → j ≡ Refused q f → Printed (shown_by (judged T) T s n) 0 32988 0 t t
+  pub store_none : {r : Refusal} (t : List ℕ) → j ≡ Err r → Printed (shown_by (judged T) T s n) 0 32988 0 t t
   store_none t e =
       subst (λ (k : Judged). Printed (shown_by k T s n) 0 32988 0 t t) (sym e ∙ told) (record { place_is = refl; text_is = refl; room = omega arith })
 
-  module _ {S : Shape} (sound : j ≡ Sound S) where
+  module _ {S : Shape} (sound : j ≡ Ok S) where
     pub store_good : Good T S
     store_good = let w = was_sound T S (sym told ∙ sound) in rw w.1 (good T (accepted_means T w.0))
 

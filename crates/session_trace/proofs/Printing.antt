@@ -1,22 +1,20 @@
 -- What is printed, over plain variables.
 use mathlib.Core.Path.{◌≡◌, refl, sym, ap, ◌∙◌}
-use mathlib.Core.List.{List, [], ◌∷◌, ◌++◌}
-use Prim.Native.Nat.{ℕ, ◌+◌, ◌≤◌, ◌<◌}
-use native.Mathlib.Numerals.{add-one}
+use mathlib.Core.List.{List, [], ◌++◌, append_assoc}
+use Prim.Native.Nat.{ℕ, ◌+◌, ◌≤◌}
 use native.Mathlib.Omega.{arith}
-use lib.ListN.{length, get_or, set, take, length-append}
-use lib.Seq.{sets, take-suc, take_all, length-take-le}
+use lib.ListN.{length, take, drop, length-append}
+use lib.Seq.{sets, sets-eq, drop-drop}
+use borrow.Rule.Slice.PartMut.{put_mid}
 use Rattle.rules_numbers.proofs.laws.Sets.{and_then_lem}
 use Rattle.lines.specs.Printed.{Printed}
 
--- ---- a word, byte by byte
-pub word_more : (W t₀ t t' : List ℕ) (at i p : ℕ) → p ≡ at + i → i < length W → t ≡ sets t₀ at (take i W) → t' ≡ set t p (get_or W i 0) → t' ≡ sets t₀ at (take (i + 1) W)
-word_more W t₀ t t' at i p e h q u =
-    and_then_lem t₀ at p (take i W) (get_or W i 0 ∷ []) (e ∙ ap (λ (n : ℕ). at + n) (sym (length-take-le i W (omega arith)))) q u
-    ∙ ap (sets t₀ at) (sym (ap (λ (n : ℕ). take n W) (add-one i) ∙ take-suc W i 0 h))
-
-pub word_all : (W t₀ t : List ℕ) (at i r : ℕ) → length W ≡ i → r ≡ at + i → t ≡ sets t₀ at (take i W) → Printed W at (at + length W) r t₀ t
-word_all W t₀ t at i r e f q = record { place_is = omega arith; text_is = q ∙ ap (sets t₀ at) (take_all i W (omega arith)); room = omega arith }
+-- ---- a word copied into its place
+pub word_put : (W t C : List ℕ) (at k : ℕ) → C ≡ W → k ≡ length W → at + length W ≤ length t → Printed W at (at + length W) (at + length W) t (put_mid at k t C)
+word_put W t C at k e f l = record { place_is = refl; text_is = rw (e, f) (sym whole); room = omega arith }
+  where
+    whole : sets t at W ≡ take at t ++ (W ++ drop (length W) (drop at t))
+    whole = sets-eq W t at l ∙ append_assoc (take at t) W (drop (at + length W) t) ∙ ap (λ (X : List ℕ). take at t ++ (W ++ X)) (sym (drop-drop (length W) at t))
 
 -- ---- nothing, and one after another
 module _ {text : List ℕ} {at : ℕ} where

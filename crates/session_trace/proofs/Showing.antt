@@ -8,7 +8,6 @@ use lib.Dec.{eqb}
 use borrow.Author.Tests.{eq-eqb, ne_eqb}
 use Rattle.rules_walks.proofs.laws.Choose.{choose_true, choose_false}
 use Rattle.rules_walks.proofs.laws.Pick.{clash}
-use Rattle.rules_walks.specs.Choose.{choose}
 use Rattle.rules_tables.specs.Frame.{Table, flag_at, field_at}
 use Rattle.rules_tables.specs.declared.Shape.{Shape}
 use Rattle.rules_tables.specs.Ids.{variable_frame}
@@ -18,40 +17,6 @@ use Rattle.rules_shows.specs.Shown.{sort_word, role_word, variable_line, variabl
 use Rattle.lines.specs.Printed.{Printed}
 use Rattle.session_trace.specs.Owned.{owned}
 use Rattle.session_trace.proofs.Printing.{prints_none, prints_is, prints_then}
-
--- ---- words, each test in its turn
-module _ (k : ℕ) where
-  pub sort_basic : k ≡ 0 → codes "basic" ≡ sort_word k
-  unfolding sort_word choose
-  sort_basic e = rw (eq-eqb k 0 e)
-
-  pub sort_interface : (k ≡ 0 → ⊥) → k ≡ 1 → codes "interface" ≡ sort_word k
-  unfolding sort_word choose
-  sort_interface n e = rw (ne_eqb k 0 n, eq-eqb k 1 e)
-
-  pub sort_delay : (k ≡ 0 → ⊥) → (k ≡ 1 → ⊥) → k ≡ 2 → codes "delay" ≡ sort_word k
-  unfolding sort_word choose
-  sort_delay n m e = rw (ne_eqb k 0 n, ne_eqb k 1 m, eq-eqb k 2 e)
-
-  pub sort_source : (k ≡ 0 → ⊥) → (k ≡ 1 → ⊥) → (k ≡ 2 → ⊥) → k ≡ 3 → codes "source" ≡ sort_word k
-  unfolding sort_word choose
-  sort_source n m l e = rw (ne_eqb k 0 n, ne_eqb k 1 m, ne_eqb k 2 l, eq-eqb k 3 e)
-
-  pub sort_sink : (k ≡ 0 → ⊥) → (k ≡ 1 → ⊥) → (k ≡ 2 → ⊥) → (k ≡ 3 → ⊥) → codes "sink" ≡ sort_word k
-  unfolding sort_word choose
-  sort_sink n m l i = rw (ne_eqb k 0 n, ne_eqb k 1 m, ne_eqb k 2 l, ne_eqb k 3 i)
-
-  pub role_input : k ≡ 0 → codes "  input " ≡ role_word k
-  unfolding role_word choose
-  role_input e = rw (eq-eqb k 0 e)
-
-  pub role_output : (k ≡ 0 → ⊥) → k ≡ 1 → codes "  output " ≡ role_word k
-  unfolding role_word choose
-  role_output n e = rw (ne_eqb k 0 n, eq-eqb k 1 e)
-
-  pub role_internal : (k ≡ 0 → ⊥) → (k ≡ 1 → ⊥) → codes "  internal " ≡ role_word k
-  unfolding role_word choose
-  role_internal n m = rw (ne_eqb k 0 n, ne_eqb k 1 m)
 
 -- ---- a variable's line
 module _ (T : Table) (S : Shape) (s : Store) (v : ℕ) where

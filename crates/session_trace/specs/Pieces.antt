@@ -1,12 +1,10 @@
 -- What a piece of a traced run leaves, and what is shown of it.
-use Rattle.std.specs.Prelude.{List, [], Bool, ℕ, ◌≤◌, eqb, ltb, length, take}
+use Rattle.std.specs.Prelude.{List, [], Bool, ℕ, ◌≤◌, eqb, ltb, length, take, Ok, Err}
 use Rattle.rules_walks.specs.Pick.{both}
 use Rattle.rules_tables.specs.Frame.{Table}
-use Rattle.rules_tables.specs.declared.Judged.{Judged}
-use Rattle.rules_tables.specs.declared.Judged.TheVariants.{Sound, Refused}
+use Rattle.rules_tables.specs.Judge.{Judged}
 use Rattle.rules_store.specs.Word.{Store}
-use Rattle.rules_calls.specs.declared.Answer.{Answer}
-use Rattle.rules_calls.specs.Answer.{moves_of, stop_of, bytes_of}
+use Rattle.rules_calls.specs.Answer.{moves_of, stop_of, bytes_of, Answer}
 use Rattle.rules_traces.specs.declared.Shown.{Shown}
 use Rattle.rules_traces.specs.Public.{TracedCall, ShowCall}
 use Rattle.rules_shows.specs.Lines.{bytes_lines}
@@ -32,5 +30,5 @@ pub record Seen (T : Table) (s : Store) (text : List ℕ) (at frames : ℕ) (r :
 
 -- what is printed of a store, by what the check says of the table
 abbrev pub shown_by : Judged → Table → Store → (n : ℕ) → List ℕ
-shown_by (Sound S) T s n = shown_text T S s n
-shown_by (Refused q f) T s n = []
+shown_by (Ok S) T s n = shown_text T S s n
+shown_by (Err r) T s n = []

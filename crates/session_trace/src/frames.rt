@@ -14,12 +14,9 @@ pub fn put_lines(trace: &[u8], text: &mut [u8], at: usize) -> usize
     ensures { (text.new ≡ sets text.old at (bytes_lines trace.now))
         × (result ≡ at + length (bytes_lines trace.now)) × (result ≡ at + 25 * (length trace.now / 12)) }
 {
-    let n = trace.len() / FRAME;
-    let mut k = 0;
     let mut p = at;
-    while k < n {
+    for k in 0..trace.len() / FRAME {
         p = put_line(&trace[FRAME * k..FRAME * k + FRAME], text, p);
-        k += 1;
     }
     p
 }

@@ -1,7 +1,6 @@
 // What the programs `trace` and `show` print: a piece of a traced run as lines, and a store as text that a person reads.
 #![tactic(auto)]
 
-pub mod copy;
 pub mod frames;
 pub mod number;
 pub mod piece;

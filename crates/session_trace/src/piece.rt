@@ -10,9 +10,9 @@ use crate::shown::put_shown;
 use calls::show::show;
 use calls::traced::run_traced;
 use lines::part::stretch;
-use rules_calls::Answer;
-use rules_tables::Judged;
+use rules_calls::{Answer, Answered};
 use rules_traces::{Shown, Traced};
+use store_words::network::Network;
 use table_check::check;
 
 #[derive(Clone, Copy)]
@@ -26,13 +26,11 @@ pub struct Piece {
 const NO_TRACE_ROOM: u32 = 4;
 
 // The run goes on with another piece: this one stopped for want of trace room, and not at once.
+#[tactic(auto, unfolding(crate::specs::Pieces::goes_on))]
 pub fn goes_on(a: Answer) -> bool
     ensures { result ≡ goes_on a }
 {
-    if a.stop() != NO_TRACE_ROOM {
-        return false;
-    }
-    0 < a.moves()
+    a.stop() == NO_TRACE_ROOM && 0 < a.moves()
 }
 
 // A piece of a run, and the lines of its trace at the start of the text.
@@ -49,10 +47,7 @@ pub fn trace_piece(
 {
     let traced = run_traced(t, store, budget, out, trace);
     let at = put_lines(stretch(trace, traced.traced), text, 0);
-    Piece {
-        traced: traced,
-        at: at,
-    }
+    Piece { traced, at }
 }
 
 #[derive(Clone, Copy)]
@@ -77,11 +72,8 @@ pub fn show_piece(
         × Seen t.now shown.old text.new result.piece.at frames result.shown shown.new }
 {
     let piece = trace_piece(t, store, budget, out, trace, text);
-    let seen = show(t, shown, stretch(text, piece.at), frames);
-    SeenPiece {
-        piece: piece,
-        shown: seen,
-    }
+    let shown = show(t, shown, stretch(text, piece.at), frames);
+    SeenPiece { piece, shown }
 }
 
 // What the shown store shows after so many frames, at the start of the text; nothing for a table that was not accepted.
@@ -89,9 +81,9 @@ pub fn put_store(t: &[u8], shown: &[u32], frames: usize, text: &mut [u8]) -> usi
     requires { 32988 ≤ length text.old }
     ensures { Printed (shown_by (judged t.now) t.now shown.now frames) 0 32988 result text.old text.new }
 {
-    let judged = check(t);
-    let Judged::Sound(shape) = judged else {
+    let Ok(shape) = check(t) else {
         return 0;
     };
-    put_shown(t, shape, shown, frames, text, 0)
+    let net = Network { table: t, shape };
+    put_shown(&net, shown, frames, text, 0)
 }

@@ -8,13 +8,9 @@ pub fn put_word(word: &[u8], text: &mut [u8], at: usize) -> usize
     requires { at + length word.now ≤ length text.old }
     ensures { Printed word.now at (at + length word.now) result text.old text.new }
 {
-    let n = word.len();
-    let mut i = 0;
-    while i < n {
-        text[at + i] = word[i];
-        i += 1;
-    }
-    at + n
+    let end = at + word.len();
+    text[at..end].copy_from_slice(word);
+    end
 }
 
 // The decimal digits of a number, at most 20.

@@ -11,25 +11,11 @@ use session_dialogue::session::{Phase, Session};
 use session_dialogue::told::tell_load;
 use session_lines::command::line_command;
 
-#[derive(Clone, Copy)]
-pub enum Asked {
-    // A run with this budget.
-    Run(u32),
-    // Anything else.
-    Other,
-}
-
 // The table still comes.
 fn in_table(s: Session) -> bool
     ensures { result ≡ is_table s.phase }
 {
-    let phase = s.phase;
-    match phase {
-        Phase::Table => true,
-        Phase::Calls => false,
-        Phase::Values(_, _, _, _) => false,
-        Phase::Stopped => false,
-    }
+    matches!(s.phase, Phase::Table)
 }
 
 // The session that the line is judged in: the first line beginning 80 to 83 loads the table first. It is made on a copy of the store; the text is thrown away.
@@ -47,27 +33,22 @@ pub fn opened(t: &[u8], copy: &mut [u32], line: &[u8], text: &mut [u8], s: Sessi
     tell_load(t, copy, text, s)
 }
 
-fn asked_by(c: Command) -> Asked
+// The budget of a run, where the command is one.
+fn asked_by(c: Command) -> Option<u32>
     ensures { result ≡ asked_by c }
 {
     match c {
-        Command::Wrong => Asked::Other,
-        Command::Advance(_) => Asked::Other,
-        Command::Arrival(_, _, _) => Asked::Other,
-        Command::Value(_) => Asked::Other,
-        Command::Run(budget) => Asked::Run(budget),
+        Command::Run(budget) => Some(budget),
+        Command::Wrong | Command::Advance(_) | Command::Arrival(..) | Command::Value(_) => None,
     }
 }
 
-// Whether the line asks for a run there: only where a call is expected.
-pub fn line_asks(line: &[u8], s: Session) -> Asked
+// The budget of the run that the line asks for there, if it asks for one: only where a call is expected.
+pub fn line_asks(line: &[u8], s: Session) -> Option<u32>
     ensures { result ≡ asked_in s.phase (line_command line.now) }
 {
-    let phase = s.phase;
-    match phase {
-        Phase::Table => Asked::Other,
+    match s.phase {
         Phase::Calls => asked_by(line_command(line)),
-        Phase::Values(_, _, _, _) => Asked::Other,
-        Phase::Stopped => Asked::Other,
+        Phase::Table | Phase::Values(_) | Phase::Stopped => None,
     }
 }

@@ -3,16 +3,14 @@
 // shows (`session_watch`). More frames than there are show the last.
 #![tactic(auto)]
 
-use session_trace::number::{Number, number_in};
+use session_trace::number::number_in;
 use session_watch::{Wish, watch_session};
 use std::env::{Env, FillError};
 
 // The number that argument i writes; a longer one than the buffer is not a number.
-fn argument(rt: &impl Env, i: usize) -> Number {
+fn argument(rt: &impl Env, i: usize) -> Option<usize> {
     let mut word = [0u8; 32];
-    let Ok(n) = rt.arg(i, &mut word) else {
-        return Number::Wrong;
-    };
+    let n = rt.arg(i, &mut word).ok()?;
     number_in(&word[..n])
 }
 
@@ -38,19 +36,13 @@ fn main(rt: HostRuntime) {
         refuse(&rt);
         return;
     }
-    let run = argument(&rt, 1);
-    let Number::Is(first) = run else {
+    let (Some(run), Some(frames)) = (argument(&rt, 1), argument(&rt, 2)) else {
         refuse(&rt);
         return;
     };
-    if first == 0 {
+    if run == 0 {
         refuse(&rt);
         return;
     }
-    let frames = argument(&rt, 2);
-    let Number::Is(most) = frames else {
-        refuse(&rt);
-        return;
-    };
-    watch_session(&rt, Wish::Show(most), first);
+    watch_session(&rt, Wish::Show { run, frames });
 }

@@ -2,7 +2,15 @@
 use mathlib.Core.Path.{◌≡◌, sym, ◌∙◌}
 use mathlib.Core.List.{List}
 use mathlib.Core.Bool.{true}
-use Prim.Native.Nat.{ℕ, ◌-◌, ◌≤◌}
+use Prim.Native.Nat.{ℕ, zero, suc, ◌-◌, ◌≤◌}
+use mathlib.Core.List.{◌++◌}
+use mathlib.Core.Path.{refl, ap}
+use native.Mathlib.Omega.{arith}
+use lib.ListN.{length, drop, replicate, set}
+use Rattle.std.proofs.Common.{add-one}
+use Rattle.std.proofs.lemmas.List.Edits.{fill_none, fill_more}
+use Rattle.rules_walks.specs.Walk.{up_to}
+use Rattle.rules_store.specs.Load.{zeroes}
 use lib.Dec.{eqb, leb}
 use borrow.Author.Tests.{eq-eqb, ne_eqb, leb-true}
 use Rattle.rules_walks.specs.Pick.{both}
@@ -14,8 +22,7 @@ use Rattle.rules_tables.specs.declared.Shape.{Shape}
 use Rattle.rules_store.specs.declared.Running.{Running}
 use Rattle.rules_tables.specs.Ids.{elements, inputs, input_frame, action_frame}
 use Rattle.rules_store.specs.Word.{put_chart_state}
-use Rattle.table_parts.specs.declared.Found.{Found}
-use Rattle.table_parts.specs.declared.Found.TheVariants.{One, Missing}
+use Rattle.std.specs.Prelude.{Option, Some, None}
 use Rattle.table_parts.specs.Found.{found_of}
 use Rattle.rules_tables.specs.Actions.{action_of}
 use Rattle.table_parts.proofs.laws.Found.{was_one, was_missing}
@@ -41,11 +48,17 @@ owner_some T S e i h =
     (both (leb e (elements S)) (both (eqb (flag_at T (e - 1)) basic) (both (leb 1 i) (both (leb i (inputs S)) (eqb (field_at T (input_frame S (i - 1)) 0) (e - 1)))))) h)
 
 -- the step, where no action was found and where one was
-module _ (T : List ℕ) (S : Shape) (r : Running) (q : ℕ) {w : ℕ} {f : Found} (a : w ≡ r.action) (p : f ≡ found_of (action_of T S q w)) where
-  pub step_none : f ≡ Missing → step_ok T S r (action_of T S q r.action) ≡ both (eqb r.action 0) (eqb r.step 0)
+module _ (T : List ℕ) (S : Shape) (r : Running) (q : ℕ) {w : ℕ} {f : Option ℕ} (a : w ≡ r.action) (p : f ≡ found_of (action_of T S q w)) where
+  pub step_none : f ≡ None → step_ok T S r (action_of T S q r.action) ≡ both (eqb r.action 0) (eqb r.step 0)
   unfolding step_ok
   step_none m = rw (← a, was_missing (action_of T S q w) (sym p ∙ m))
 
-  pub step_one : (j : ℕ) → f ≡ One j → step_ok T S r (action_of T S q r.action) ≡ leb r.step (field_at T (action_frame S j) 2)
+  pub step_one : (j : ℕ) → f ≡ Some j → step_ok T S r (action_of T S q r.action) ≡ leb r.step (field_at T (action_frame S j) 2)
   unfolding step_ok
   step_one j m = rw (← a, was_one (action_of T S q w) j (sym p ∙ m))
+
+-- the words zeroed one by one are zeros, and the rest
+pub zeroes_fill : (n : ℕ) (s : List ℕ) → n ≤ length s → zeroes n s ≡ replicate n 0 ++ drop n s
+unfolding up_to
+zeroes_fill zero s h = fill_none s 0
+zeroes_fill (suc n) s h = ap (λ (x : List ℕ). set x n 0) (zeroes_fill n s (omega arith)) ∙ fill_more n 0 s (omega arith) ∙ rw (add-one n) refl

@@ -2,7 +2,6 @@
 ghost use Rattle.std.specs.Prelude.{◌≡◌, ◌<◌, ◌≤◌};
 ghost use Rattle.rules_tables.specs.Frame.{frames_of};
 ghost use Rattle.rules_walks.specs.All.{all_to};
-ghost use Rattle.rules_tables.specs.Good.{Good};
 ghost use Rattle.rules_tables.specs.Ids.{elements as «elements_of», inputs as «inputs_of», variables as «variables_of»};
 ghost use Rattle.store_words.specs.Small.{Small};
 ghost use Rattle.rules_store.specs.WellFormed.{chart_ok, due_ok, element_ok, input_ok, variable_ok, parts_ok, well_formed};
@@ -10,7 +9,7 @@ ghost use Rattle.rules_store.specs.WellFormed.{chart_ok, due_ok, element_ok, inp
 use crate::header::{next_ok, running_ok, spares_ok};
 use numbers::word::wide;
 use rules_tables::Shape;
-use store_words::shape::{elements, inputs, state_frame, states, variable_frame, variables};
+use store_words::network::Network;
 use store_words::word::{
     LARGEST_DUE, LARGEST_TIME, birth, buffer_of, chart_state, due_flag, due_time, last_update,
     running, time, waiting_flag,
@@ -19,22 +18,20 @@ use table_frames::frame::{field, flag};
 use table_frames::kind::{BASIC, DELAY, INPUT};
 
 // A basic element's chart state is its own, others have 0.
-fn chart_ok(t: &[u8], store: &[u32], shape: Shape, el: usize) -> bool
-    requires { Good t.now shape × (el < elements_of shape) }
-    ensures { result ≡ chart_ok t.now shape store.now el }
+#[tactic(auto, unfolding(rules_store::specs::WellFormed::chart_ok))]
+fn chart_ok(net: &Network, store: &[u32], el: usize) -> bool
+    requires { el < elements_of net.now.shape }
+    ensures { result ≡ chart_ok net.now.table.now net.now.shape store.now el }
 {
     let q = wide(chart_state(store, el));
-    if flag(t, el) != BASIC {
+    if flag(net.table, el) != BASIC {
         return q == 0;
     }
-    if q < states(shape) {
-        field(t, state_frame(t, shape, q), 0) == el
-    } else {
-        false
-    }
+    q < net.shape.states() && field(net.table, net.state_frame(q), 0) == el
 }
 
 // A due flag is only on a delay, due from now to 4,294,967,294, else zeros.
+#[tactic(auto, unfolding(rules_store::specs::WellFormed::due_ok))]
 fn due_ok(t: &[u8], store: &[u32], el: usize) -> bool
     requires { el < frames_of t.now × (frames_of t.now ≤ 4096) }
     ensures { result ≡ due_ok t.now store.now el }
@@ -44,45 +41,25 @@ fn due_ok(t: &[u8], store: &[u32], el: usize) -> bool
     if flagged == 0 {
         return due == 0;
     }
-    if flagged != 1 {
-        return false;
-    }
-    if flag(t, el) != DELAY {
-        return false;
-    }
-    if due < time(store) {
-        return false;
-    }
-    due <= LARGEST_DUE
+    flagged == 1 && flag(t, el) == DELAY && time(store) <= due && due <= LARGEST_DUE
 }
 
-fn element_ok(t: &[u8], store: &[u32], shape: Shape, el: usize) -> bool
-    requires { Good t.now shape × (el < elements_of shape) }
-    ensures { result ≡ element_ok t.now shape store.now el }
+#[tactic(auto, unfolding(rules_store::specs::WellFormed::element_ok))]
+fn element_ok(net: &Network, store: &[u32], el: usize) -> bool
+    requires { el < elements_of net.now.shape }
+    ensures { result ≡ element_ok net.now.table.now net.now.shape store.now el }
 {
-    if chart_ok(t, store, shape, el) {
-        due_ok(t, store, el)
-    } else {
-        false
-    }
+    chart_ok(net, store, el) && due_ok(net.table, store, el)
 }
 
-fn elements_ok(t: &[u8], store: &[u32], shape: Shape) -> bool
-    requires { Good t.now shape }
-    ensures { result ≡ all_to (element_ok t.now shape store.now) (elements_of shape) }
+fn elements_ok(net: &Network, store: &[u32]) -> bool
+    ensures { result ≡ all_to (element_ok net.now.table.now net.now.shape store.now) (elements_of net.now.shape) }
 {
-    let n = elements(shape);
-    let mut el = 0;
-    while el < n {
-        if !element_ok(t, store, shape, el) {
-            return false;
-        }
-        el += 1;
-    }
-    true
+    (0..net.shape.elements()).all(|el| element_ok(net, store, el))
 }
 
 // A waiting event has birth ≤ last update ≤ now, others zeros.
+#[tactic(auto, unfolding(rules_store::specs::WellFormed::input_ok))]
 fn input_ok(store: &[u32], shape: Shape, i: usize) -> bool
     requires { Small shape × (i < 65536) }
     ensures { result ≡ input_ok shape store.now i }
@@ -91,92 +68,49 @@ fn input_ok(store: &[u32], shape: Shape, i: usize) -> bool
     let last = last_update(store, shape, i);
     let flagged = waiting_flag(store, shape, i);
     if flagged == 0 {
-        if born != 0 {
-            return false;
-        }
-        return last == 0;
+        return born == 0 && last == 0;
     }
-    if flagged != 1 {
-        return false;
-    }
-    if last < born {
-        return false;
-    }
-    last <= time(store)
+    flagged == 1 && born <= last && last <= time(store)
 }
 
 fn inputs_ok(store: &[u32], shape: Shape) -> bool
     requires { Small shape }
     ensures { result ≡ all_to (input_ok shape store.now) (inputs_of shape) }
 {
-    let n = inputs(shape);
-    let mut i = 0;
-    while i < n {
-        if !input_ok(store, shape, i) {
-            return false;
-        }
-        i += 1;
-    }
-    true
+    (0..shape.inputs()).all(|i| input_ok(store, shape, i))
 }
 
 // The buffer of a variable that is not an input is 0.
-fn variable_ok(t: &[u8], store: &[u32], shape: Shape, v: usize) -> bool
-    requires { Good t.now shape × (v < variables_of shape) }
-    ensures { result ≡ variable_ok t.now shape store.now v }
+#[tactic(auto, unfolding(rules_store::specs::WellFormed::variable_ok))]
+fn variable_ok(net: &Network, store: &[u32], v: usize) -> bool
+    requires { v < variables_of net.now.shape }
+    ensures { result ≡ variable_ok net.now.table.now net.now.shape store.now v }
 {
-    if flag(t, variable_frame(t, shape, v)) == INPUT {
-        return true;
-    }
-    buffer_of(store, shape, v) == 0
+    flag(net.table, net.variable_frame(v)) == INPUT || buffer_of(store, net.shape, v) == 0
 }
 
-fn variables_ok(t: &[u8], store: &[u32], shape: Shape) -> bool
-    requires { Good t.now shape }
-    ensures { result ≡ all_to (variable_ok t.now shape store.now) (variables_of shape) }
+fn variables_ok(net: &Network, store: &[u32]) -> bool
+    ensures { result ≡ all_to (variable_ok net.now.table.now net.now.shape store.now) (variables_of net.now.shape) }
 {
-    let n = variables(shape);
-    let mut v = 0;
-    while v < n {
-        if !variable_ok(t, store, shape, v) {
-            return false;
-        }
-        v += 1;
-    }
-    true
+    (0..net.shape.variables()).all(|v| variable_ok(net, store, v))
 }
 
 // Elements, event inputs and variables.
-fn parts_ok(t: &[u8], store: &[u32], shape: Shape) -> bool
-    requires { Good t.now shape }
-    ensures { result ≡ parts_ok t.now shape store.now }
+#[tactic(auto, unfolding(rules_store::specs::WellFormed::parts_ok))]
+fn parts_ok(net: &Network, store: &[u32]) -> bool
+    ensures { result ≡ parts_ok net.now.table.now net.now.shape store.now }
 {
-    if !elements_ok(t, store, shape) {
-        return false;
-    }
-    if inputs_ok(store, shape) {
-        variables_ok(t, store, shape)
-    } else {
-        false
-    }
+    elements_ok(net, store) && inputs_ok(store, net.shape) && variables_ok(net, store)
 }
 
 // The store is well formed.
-pub fn well_formed(t: &[u8], store: &[u32], shape: Shape) -> bool
-    requires { Good t.now shape }
-    ensures { result ≡ well_formed t.now shape store.now }
+#[tactic(auto, unfolding(rules_store::specs::WellFormed::well_formed))]
+pub fn well_formed(net: &Network, store: &[u32]) -> bool
+    ensures { result ≡ well_formed net.now.table.now net.now.shape store.now }
 {
-    if LARGEST_TIME < time(store) {
-        return false;
-    }
-    if !spares_ok(store) {
-        return false;
-    }
-    if !next_ok(store, shape) {
-        return false;
-    }
-    if !running_ok(t, store, shape, running(store)) {
-        return false;
-    }
-    parts_ok(t, store, shape)
+    time(store) <= LARGEST_TIME
+        && spares_ok(store)
+        && next_ok(store, net.shape)
+        && running_ok(net, store, running(store))
+        && parts_ok(net, store)
 }

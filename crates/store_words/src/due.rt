@@ -8,33 +8,29 @@ ghost use Rattle.rules_store.specs.Earliest.{another, NextKept};
 ghost use Rattle.store_words.specs.Small.{Small};
 ghost use Rattle.store_words.specs.Due.{comes_first};
 
-use crate::shape::elements;
 use crate::word::{due_flag, due_time, next_due, put_next, set_due};
 use rules_store::NextDue;
 use rules_tables::Shape;
 
 // Element el is due at the time `at`.
+#[tactic(auto, unfolding(rules_store::specs::Due::due_at))]
 pub fn due_at(store: &[u32], el: usize, at: u32) -> bool
     requires { el < 4294967296 }
     ensures { result ≡ due_at store.now at el }
 {
-    if due_flag(store, el) == 0 {
-        return false;
-    }
-    due_time(store, el) == at
+    due_flag(store, el) != 0 && due_time(store, el) == at
 }
 
 // The time `at`, where nothing else is due or it comes before that.
+#[tactic(auto, unfolding(rules_store::specs::Due::sooner, rules_walks::specs::Choose::choose))]
 fn sooner(at: u32, next: NextDue) -> NextDue
     ensures { result ≡ sooner_of at next }
 {
-    if next.due == 0 {
-        return NextDue { due: 1, time: at };
+    if next.due == 0 || at < next.time {
+        NextDue { due: 1, time: at }
+    } else {
+        next
     }
-    if at < next.time {
-        return NextDue { due: 1, time: at };
-    }
-    next
 }
 
 // The earliest due time of the first n elements, found by looking.
@@ -43,12 +39,10 @@ pub fn earliest(store: &[u32], n: usize) -> NextDue
     ensures { result ≡ earliest_of store.now n }
 {
     let mut next = NextDue { due: 0, time: 0 };
-    let mut el = 0;
-    while el < n {
+    for el in 0..n {
         if due_flag(store, el) != 0 {
             next = sooner(due_time(store, el), next);
         }
-        el += 1;
     }
     next
 }
@@ -58,27 +52,20 @@ fn due_behind(store: &[u32], n: usize, el: usize, at: u32) -> bool
     requires { (el < n) × (n ≤ 4096) }
     ensures { result ≡ true → Witness (another store.now at el) n }
 {
-    let mut k = el + 1;
-    while k < n {
+    for k in el + 1..n {
         if due_at(store, k, at) {
             return true;
         }
-        k += 1;
     }
     false
 }
 
 // An element that gets this due flag and time comes first: it is due, and nothing else is before.
+#[tactic(auto, unfolding(crate::specs::Due::comes_first))]
 fn comes_first(flag: u32, at: u32, next: NextDue) -> bool
     ensures { result ≡ comes_first flag at next }
 {
-    if flag == 0 {
-        return false;
-    }
-    if next.due == 0 {
-        return true;
-    }
-    at <= next.time
+    flag != 0 && (next.due == 0 || at <= next.time)
 }
 
 // What is next due stays so whatever else element el gets: nothing was due, or another one is due at that time. Of those, one before el at the same time is not
@@ -93,7 +80,7 @@ fn stays(store: &[u32], shape: Shape, el: usize, next: NextDue) -> bool
     if !due_at(store, el, next.time) {
         return true;
     }
-    due_behind(store, elements(shape), el, next.time)
+    due_behind(store, shape.elements(), el, next.time)
 }
 
 // The one writer of due words: element el gets this due flag and time, and the next due time is kept. Where el was the earliest and no more is, all elements are
@@ -113,6 +100,6 @@ pub fn put_due(store: &mut [u32], shape: Shape, el: usize, flag: u32, at: u32)
     if same {
         return;
     }
-    let found = earliest(store, elements(shape));
+    let found = earliest(store, shape.elements());
     put_next(store, found);
 }

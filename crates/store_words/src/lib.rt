@@ -3,5 +3,7 @@
 
 pub mod actions;
 pub mod due;
+pub mod frames;
+pub mod network;
 pub mod shape;
 pub mod word;

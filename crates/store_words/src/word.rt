@@ -7,7 +7,6 @@ ghost use Rattle.rules_store.specs.Running.{stepped, charting, entered};
 ghost use Rattle.store_words.specs.Small.{Small};
 ghost use Rattle.rules_store.specs.Word.{counted as «counted_of», spares, spare_at, now_of, put_now, running_element, current_event, put_owner, running_of, put_running, overwritten, put_overwritten, next_due, put_next, untrue, put_untrue, spare_word, chart_state, put_chart_state, due_flag, due_time, set_due, waiting, birth_of, last_update, put_input, value, put_value, buffer, put_buffer};
 
-use crate::shape::inputs;
 use rules_store::{NextDue, Running};
 use rules_tables::Shape;
 
@@ -221,7 +220,7 @@ fn variable_at(shape: Shape, v: usize) -> usize
     requires { Small shape × (v < 65536) }
     ensures { Bounded 1000000 (variable_at shape v) result }
 {
-    16 + 3 * shape.elements_end + 3 * inputs(shape) + 2 * v
+    16 + 3 * shape.elements_end + 3 * shape.inputs() + 2 * v
 }
 
 // The chart state of element el.

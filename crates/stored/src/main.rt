@@ -6,10 +6,10 @@
 
 ghost use Rattle.std.specs.Prelude.{◌+◌, ◌≤◌, ◌<◌, length};
 
-use lines::part::stretch;
+use lines::part::{put_at, stretch};
 use session_dialogue::feeding::{END_ROOM, feed, finish};
 use session_dialogue::part::has_room;
-use session_dialogue::session::Session;
+use session_dialogue::session::{Buffers, Session};
 use std::io::Read;
 
 // The place of the next such mark from `from` on, or the end.
@@ -17,15 +17,12 @@ fn next_mark(all: &[u8], mark: u8, from: usize) -> usize
     requires { from ≤ length all.now }
     ensures { (from ≤ result) × (result ≤ length all.now) }
 {
-    let n = all.len();
-    let mut i = from;
-    while i < n {
+    for i in from..all.len() {
         if all[i] == mark {
             return i;
         }
-        i += 1;
     }
-    n
+    all.len()
 }
 
 // The place after the mark at i and its line end.
@@ -39,43 +36,19 @@ fn after_mark(all: &[u8], i: usize) -> usize
     i + 2
 }
 
-// The two stretches have the same bytes.
-fn same(a: &[u8], b: &[u8]) -> bool {
-    let n = a.len();
-    if n != b.len() {
-        return false;
-    }
-    let mut i = 0;
-    while i < n {
-        if a[i] != b[i] {
-            return false;
-        }
-        i += 1;
-    }
-    true
-}
-
 // The bytes between two places.
 fn between(all: &[u8], from: usize, to: usize) -> &[u8] {
-    if to <= all.len() {
-        if from <= to {
-            return &all[from..to];
-        }
-    }
-    stretch(all, 0)
-}
-
-// The live flag becomes 2.
-fn spoil(store: &mut [u32]) {
-    if 5 < store.len() {
-        store[5] = 2;
+    if from <= to && to <= all.len() {
+        &all[from..to]
+    } else {
+        &all[..0]
     }
 }
 
-// The same at a mark, which is one before the end.
+// At a mark, which is one before the end, the live flag becomes 2.
 fn spoil_at(store: &mut [u32], to: usize, end: usize) {
     if to < end {
-        spoil(store);
+        put_at(store, 5, 2);
     }
 }
 
@@ -88,77 +61,59 @@ fn past(to: usize, end: usize) -> usize
 }
 
 // The end of a session. Where the text has no room left, nothing happens, and the answer will differ.
-fn take_rest(
-    table: &mut [u8],
-    store: &mut [u32],
-    values: &mut [u32],
-    line: &[u8],
-    text: &mut [u8],
-    s: Session,
-) -> Session {
-    if !has_room(text, s.at, END_ROOM) {
+fn take_rest<const STORE: usize>(b: &mut Buffers<STORE>, s: Session) -> Session {
+    if !has_room(&b.text, s.at, END_ROOM) {
         return s;
     }
-    finish(table, store, values, line, text, s)
+    finish(
+        &mut b.table,
+        &mut b.store,
+        &mut b.values,
+        &b.line,
+        &mut b.text,
+        s,
+    )
 }
 
 // The whole of a session, in pieces: at the mark between two of them the store is spoilt. The answer is how many bytes it printed. Where the text has no room
 // left, the rest of a piece is not taken, and the answer will differ.
-fn play(
-    table: &mut [u8],
-    store: &mut [u32],
-    values: &mut [u32],
-    line: &mut [u8],
-    input: &[u8],
-    text: &mut [u8],
-) -> usize {
+fn play<const STORE: usize>(b: &mut Buffers<STORE>, input: &[u8]) -> usize {
     let n = input.len();
     let mut s = Session::new();
     let mut from = 0;
+    // Stays a `while`: each turn goes to the next mark.
     while from < n {
         let to = next_mark(input, b'#', from);
         let fed = feed(
-            table,
-            store,
-            values,
-            line,
+            &mut b.table,
+            &mut b.store,
+            &mut b.values,
+            &mut b.line,
             between(input, from, to),
-            text,
+            &mut b.text,
             s,
         );
         s = fed.session;
-        spoil_at(store, to, n);
+        spoil_at(&mut b.store, to, n);
         from = past(to, n);
     }
-    let r = take_rest(table, store, values, line, text, s);
+    let r = take_rest(b, s);
     r.at
 }
 
-// The session with the buffers of the step program, or with a store of 38 words.
-fn play_all(input: &[u8], text: &mut [u8]) -> usize {
-    let mut table = [0u8; 49164];
-    let mut values = [0u32; 255];
-    let mut line = [0u8; 25];
-    if begins_short(input) {
-        let mut few = [0u32; 38];
-        return play(
-            &mut table,
-            &mut few,
-            &mut values,
-            &mut line,
-            between(input, 1, input.len()),
-            text,
-        );
-    }
-    let mut store = [0u32; 2000];
-    play(&mut table, &mut store, &mut values, &mut line, input, text)
-}
-
-fn begins_short(input: &[u8]) -> bool {
-    if input.len() == 0 {
-        return false;
-    }
-    input[0] == b'%'
+// The session with a store of so many words prints this.
+fn prints<const STORE: usize>(input: &[u8], answer: &[u8]) -> bool
+    requires { STORE ≤ 2000 }
+{
+    let mut b = Buffers {
+        table: [0; 49164],
+        store: [0; STORE],
+        values: [0; 255],
+        line: [0; 25],
+        text: [0; 65536],
+    };
+    let n = play(&mut b, input);
+    stretch(&b.text, n) == answer
 }
 
 // Tells of session number k whether it printed its answer.
@@ -170,23 +125,16 @@ fn tell(rt: &impl Print, k: u64, right: bool) {
     }
 }
 
-// The session between two places, and its answer after it.
-fn one(all: &[u8], from: usize, to: usize, answer: usize, end: usize) -> bool {
-    let mut text = [0u8; 65536];
-    let n = play_all(between(all, from, to), &mut text);
-    same(stretch(&text, n), between(all, answer, end))
+// The session with the buffers of the step program, or with a store of 38 words.
+fn one(input: &[u8], answer: &[u8]) -> bool {
+    match input {
+        [b'%', rest @ ..] => prints::<38>(rest, answer),
+        _ => prints::<2000>(input, answer),
+    }
 }
 
 fn total(rt: &impl Print, right: u64, k: u64) {
     let _ = println!(rt; "{right} of {k} sessions print their answers");
-}
-
-// One more, if it is right.
-fn counted(n: u64, right: bool) -> u64
-    requires { n < 1000000 }
-    ensures { result ≤ n + 1 }
-{
-    if right { n + 1 } else { n }
 }
 
 // Each session with its answer.
@@ -197,13 +145,14 @@ fn tell_all(rt: &impl Print, all: &[u8])
     let mut from = 0;
     let mut k = 0;
     let mut right = 0;
+    // Stays a `while`: each turn goes to the mark after the next.
     while from < n {
         let to = next_mark(all, b'=', from);
         let answer = after_mark(all, to);
         let end = next_mark(all, b'=', answer);
-        let is_right = one(all, from, to, answer, end);
+        let is_right = one(between(all, from, to), between(all, answer, end));
         tell(rt, k, is_right);
-        right = counted(right, is_right);
+        right += u64::from(is_right);
         k += 1;
         from = after_mark(all, end);
     }
@@ -215,6 +164,7 @@ fn read_full<R: Read>(from: &mut R, room: &mut [u8]) -> usize
     ensures { result ≤ length room.new }
 {
     let mut done = 0;
+    // Stays a `while`: how many bytes a read brings shows only as it goes.
     while done < room.len() {
         let Ok(n) = from.read(&mut room[done..]) else {
             break;

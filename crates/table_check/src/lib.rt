@@ -11,20 +11,25 @@ ghost use Rattle.rules_tables.specs.Reference.{refers_ok};
 ghost use Rattle.rules_tables.specs.Judge.{judge, judged, scan_to, answer, shape_of, length_ok, number, frame, refusal_number, faulty_frame};
 ghost use Rattle.table_frames.specs.StartsTo.{StartsTo};
 
-use rules_tables::{Judged, Shape};
+use rules_tables::{Refusal, Shape};
 use table_frames::form::formed_starts;
-use table_frames::place::{put_places, starts};
+use table_frames::frames::Frames;
+use table_frames::kinds::Kinds;
+use table_frames::place::starts;
 use table_network::network_end;
 use table_references::references_end;
 
 // The answer is the verdict of document 01 on the table, and of an accepted table its shape.
-pub fn check(t: &[u8]) -> Judged
+pub fn check(t: &[u8]) -> Result<Shape, Refusal>
     ensures { (result ≡ judged t.now) × (refusal_number result ≡ number (judge t.now)) × (faulty_frame result ≡ frame (judge t.now)) }
 {
     if length_ok(t) {
         scan(t)
     } else {
-        Judged::Refused(1, 0)
+        Err(Refusal {
+            number: 1,
+            frame: 0,
+        })
     }
 }
 
@@ -32,13 +37,7 @@ fn length_ok(t: &[u8]) -> bool
     ensures { result ≡ length_ok t.now }
 {
     let n = t.len();
-    if n == 0 {
-        return false;
-    }
-    if n % 12 != 0 {
-        return false;
-    }
-    n <= 49152
+    n != 0 && n % 12 == 0 && n <= 49152
 }
 
 // Where each kind begins in the whole table; `from` has it for the frames before the first that lacks its form.
@@ -54,55 +53,74 @@ fn whole_starts(t: &[u8], from: &[usize; 13]) -> [usize; 13]
 }
 
 // `references_end` of a table that may be out of order: its frames are first put in order by kind. Only such a table pays for that.
-fn placed_references_end(t: &[u8], at: &[usize; 13], n: usize) -> usize
-    requires { Starts t.now at.now × (frames_of t.now ≤ 4096) × (n ≤ frames_of t.now) × (all_to (form_ok t.now) n ≡ true) }
-    ensures { result ≡ held_to (refers_ok t.now) n }
+fn placed_references_end(kinds: &Kinds, n: usize) -> usize
+    requires { (frames_of kinds.now.table.now ≤ 4096) × (n ≤ frames_of kinds.now.table.now) × (all_to (form_ok kinds.now.table.now) n ≡ true) }
+    ensures { result ≡ held_to (refers_ok kinds.now.table.now) n }
 {
     let mut places = [0u16; 4096];
-    put_places(t, at, &mut places);
-    references_end(t, at, &places, n)
+    kinds.put_places(&mut places);
+    let frames = Frames {
+        kinds: *kinds,
+        places: &places,
+    };
+    references_end(&frames, n)
 }
 
 // `references_end` of the first n frames, which have their form. Where these are all, the table is in order.
-fn referring_end(t: &[u8], at: &[usize; 13], n: usize) -> usize
-    requires { Starts t.now at.now × (frames_of t.now ≤ 4096) × (n ≤ frames_of t.now) × (all_to (form_ok t.now) n ≡ true) }
-    ensures { result ≡ held_to (refers_ok t.now) n }
+fn referring_end(kinds: &Kinds, n: usize) -> usize
+    requires { (frames_of kinds.now.table.now ≤ 4096) × (n ≤ frames_of kinds.now.table.now) × (all_to (form_ok kinds.now.table.now) n ≡ true) }
+    ensures { result ≡ held_to (refers_ok kinds.now.table.now) n }
 {
-    if n < t.len() / 12 {
-        placed_references_end(t, at, n)
-    } else {
-        let places = [0u16; 1];
-        references_end(t, at, &places[..0], n)
+    if n < kinds.table.len() / 12 {
+        return placed_references_end(kinds, n);
     }
+    let frames = Frames {
+        kinds: *kinds,
+        places: &[],
+    };
+    references_end(&frames, n)
 }
 
 // Three passes, each over the frames that the one before let through: form, references, network rules.
 // Where a later pass stops earlier its frame is the lowest faulty one, and has no lower number.
-fn scan(t: &[u8]) -> Judged
+fn scan(t: &[u8]) -> Result<Shape, Refusal>
     requires { frames_of t.now ≤ 4096 }
     ensures { result ≡ answer (scan_to t.now (frames_of t.now)) (shape_of t.now) }
 {
     let from = formed_starts(t);
     let formed = from[12];
     let at = whole_starts(t, &from);
-    let referring = referring_end(t, &at, formed);
-    let ruled = network_end(t, &at, &from, formed, referring);
+    let kinds = Kinds {
+        table: t,
+        starts: &at,
+    };
+    let referring = referring_end(&kinds, formed);
+    let ruled = network_end(&kinds, &from, formed, referring);
     if ruled < referring {
-        return Judged::Refused(4, ruled);
+        return Err(Refusal {
+            number: 4,
+            frame: ruled,
+        });
     }
     if referring < formed {
-        return Judged::Refused(3, referring);
+        return Err(Refusal {
+            number: 3,
+            frame: referring,
+        });
     }
     if formed < t.len() / 12 {
-        return Judged::Refused(2, formed);
+        return Err(Refusal {
+            number: 2,
+            frame: formed,
+        });
     }
-    Judged::Sound(shape_at(t, &at))
+    Ok(shape_at(&kinds))
 }
 
-fn shape_at(t: &[u8], at: &[usize; 13]) -> Shape
-    requires { Starts t.now at.now }
-    ensures { result ≡ shape_of t.now }
+fn shape_at(kinds: &Kinds) -> Shape
+    ensures { result ≡ shape_of kinds.now.table.now }
 {
+    let at = kinds.starts;
     Shape {
         elements_end: at[2],
         inputs_end: at[3],

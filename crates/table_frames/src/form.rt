@@ -1,18 +1,16 @@
 // Refusal 2: the form of a frame.
-ghost use Rattle.std.specs.Prelude.{◌≡◌, ◌<◌, ◌≤◌, min, ltb, get_or};
-ghost use Rattle.rules_walks.specs.Pick.{pick};
+ghost use Rattle.std.specs.Prelude.{◌≡◌, ◌<◌, ◌≤◌, get_or};
 ghost use Rattle.rules_walks.specs.All.{all_to};
 ghost use Rattle.rules_walks.specs.Held.{held_to};
-ghost use Rattle.rules_tables.specs.Kind.{step, transition};
 ghost use Rattle.rules_tables.specs.Frame.{frames_of, kind_at};
-ghost use Rattle.rules_tables.specs.Form.{form_of, used_of, clear_at, steps_ok, body_ok, form_ok};
+ghost use Rattle.rules_tables.specs.Form.{used_of, clear_at, steps_ok, body_ok, form_ok};
+ghost use Rattle.table_frames.specs.Kind.{kind_number};
 ghost use Rattle.table_frames.specs.StartsTo.{StartsTo};
 ghost use Rattle.table_frames.specs.Walked.{KindEnd};
 
-use crate::frame::{field, flag, kind};
-use crate::kind::{ACTION, ELEMENT};
-use crate::tally::wide_count;
-use numbers::bytes::wide;
+use crate::frame;
+use crate::frame::{field, flag};
+use crate::kind::Kind;
 
 // As `Form` of the rules says it, in bytes.
 #[derive(Clone, Copy)]
@@ -29,8 +27,8 @@ const TRANSITION_FIELDS: [u8; 9] = [3, 5, 5, 5, 5, 5, 5, 5, 5];
 // A step: result, operands; copy and negate have one, age none.
 const STEP_FIELDS: [u8; 9] = [2, 3, 3, 2, 3, 3, 3, 3, 1];
 
-// By kind; entry 0 is no kind. It is made anew where it is read, so it is kept small and read once for all frames of a kind.
-const FORMS: [Form; 12] = [
+// By kind; entry 0 is not a kind of the rules.
+static FORMS: [Form; 12] = [
     Form {
         flags: 0,
         fields: [0; 9],
@@ -104,31 +102,11 @@ const FORMS: [Form; 12] = [
     },
 ];
 
-// How many fields are used at flag g, by the list of a kind.
-fn at_flag(fields: &[u8; 9], g: usize) -> usize
-    ensures { result ≡ get_or fields.now (pick (ltb g 8) g 8) 0 }
+// How many fields a frame of this kind with flag g uses.
+pub fn used(kind: Kind, g: usize) -> usize
+    ensures { result ≡ used_of (kind_number kind) g }
 {
-    if g < 8 {
-        wide(fields[g])
-    } else {
-        wide(fields[8])
-    }
-}
-
-// How many fields a transition with guard g uses.
-pub fn transition_used(g: usize) -> usize
-    ensures { result ≡ used_of transition g }
-{
-    let fields = TRANSITION_FIELDS;
-    at_flag(&fields, g)
-}
-
-// How many fields a step with operation g uses.
-pub fn step_used(g: usize) -> usize
-    ensures { result ≡ used_of step g }
-{
-    let fields = STEP_FIELDS;
-    at_flag(&fields, g)
+    usize::from(FORMS[kind.number()].fields[g.min(8)])
 }
 
 // The fields from u on are zero.
@@ -136,70 +114,41 @@ fn clear(t: &[u8], f: usize, u: usize) -> bool
     requires { f < frames_of t.now }
     ensures { result ≡ all_to (clear_at t.now f u) 5 }
 {
-    let mut j = u;
-    while j < 5 {
-        if field(t, f, j) != 0 {
-            return false;
-        }
-        j += 1;
-    }
-    true
+    (u..5).all(|j| field(t, f, j) == 0)
 }
 
 // An action has at most 64 steps.
-fn steps_ok(t: &[u8], f: usize, k: usize) -> bool
-    requires { (f < frames_of t.now) × (k ≡ kind_at t.now f) }
+fn steps_ok(t: &[u8], f: usize, kind: Kind) -> bool
+    requires { (f < frames_of t.now) × (kind_number kind ≡ kind_at t.now f) }
     ensures { result ≡ steps_ok t.now f }
 {
-    if k == ACTION {
-        field(t, f, 2) <= 64
-    } else {
-        true
-    }
+    kind != Kind::Action || field(t, f, 2) <= 64
 }
 
-// What stands in the frame itself; `flags` and `fields` are of its kind's form.
-fn body_ok(t: &[u8], f: usize, k: usize, flags: usize, fields: &[u8; 9]) -> bool
-    requires { (f < frames_of t.now) × (k ≡ kind_at t.now f) × (flags ≡ (form_of k).flags) × (fields.now ≡ (form_of k).fields) }
+// What stands in the frame itself, which is of this kind.
+fn body_ok(t: &[u8], f: usize, kind: Kind) -> bool
+    requires { (f < frames_of t.now) × (kind_number kind ≡ kind_at t.now f) }
     ensures { result ≡ body_ok t.now f }
 {
     let g = flag(t, f);
-    if flags < g {
-        return false;
-    }
-    if steps_ok(t, f, k) {
-        clear(t, f, at_flag(fields, g))
-    } else {
-        false
-    }
+    g <= usize::from(FORMS[kind.number()].flags)
+        && steps_ok(t, f, kind)
+        && clear(t, f, used(kind, g))
 }
 
-fn least(a: usize, b: usize) -> usize
-    ensures { result ≡ min a b }
+// Where the frames of a kind end that stand from `start` on, one after another, each with the body of its form and no more than a table may have.
+fn kind_end(t: &[u8], kind: Kind, start: usize) -> usize
+    requires { (start ≤ frames_of t.now) × (frames_of t.now ≤ 4096) }
+    ensures { KindEnd t.now (kind_number kind) start result }
 {
-    if a < b { a } else { b }
-}
-
-// Where the frames of kind k end that stand from `start` on, one after another, each with the body of its form and no more than a table may have.
-fn kind_end(t: &[u8], k: usize, start: usize) -> usize
-    requires { (k < 12) × (start ≤ frames_of t.now) × (frames_of t.now ≤ 4096) }
-    ensures { KindEnd t.now k start result }
-{
-    let form = FORMS[k];
-    let flags = wide(form.flags);
-    let fields = form.fields;
-    let end = least(t.len() / 12, start + wide_count(form.most));
-    let mut f = start;
-    while f < end {
-        if kind(t, f) != k {
+    let most = usize::from(FORMS[kind.number()].most);
+    let end = (t.len() / 12).min(start + most);
+    for f in start..end {
+        if frame::kind(t, f) != kind.number() || !body_ok(t, f, kind) {
             return f;
         }
-        if !body_ok(t, f, k, flags, &fields) {
-            return f;
-        }
-        f += 1;
     }
-    f
+    end
 }
 
 // Where each kind begins among the frames, from the first on, that have their form; entry 12 tells how many these are.
@@ -210,11 +159,9 @@ pub fn formed_starts(t: &[u8]) -> [usize; 13]
 {
     let mut from = [0usize; 13];
     let mut f = 0;
-    let mut k = ELEMENT;
-    while k < 12 {
-        f = kind_end(t, k, f);
-        from[k + 1] = f;
-        k += 1;
+    for kind in Kind::ALL {
+        f = kind_end(t, kind, f);
+        from[kind.number() + 1] = f;
     }
     from
 }

@@ -3,6 +3,8 @@
 
 pub mod form;
 pub mod frame;
+pub mod frames;
 pub mod kind;
+pub mod kinds;
 pub mod place;
 pub mod tally;

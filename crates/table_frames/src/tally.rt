@@ -5,12 +5,6 @@ ghost use Rattle.rules_tables.specs.Frame.{frames_of, kind_at};
 
 use crate::frame::kind;
 
-pub fn wide_count(n: u16) -> usize
-    ensures { (result ≡ n) × (result < 65536) }
-{
-    n as usize
-}
-
 // One more at i, if m has an entry there.
 pub fn plus(m: &mut [u16], i: usize)
     requires { get_or m.old i 0 < 65535 }
@@ -26,13 +20,9 @@ pub fn counts(t: &[u8]) -> [u16; 12]
     requires { frames_of t.now ≤ 4096 }
     ensures { Tallied (kind_at t.now) 12 result (frames_of t.now) }
 {
-    let n = t.len() / 12;
     let mut m = [0u16; 12];
-    let mut f = 0;
-    while f < n {
-        let k = kind(t, f);
-        plus(&mut m, k);
-        f += 1;
+    for f in 0..t.len() / 12 {
+        plus(&mut m, kind(t, f));
     }
     m
 }

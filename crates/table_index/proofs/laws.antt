@@ -8,3 +8,5 @@ pub mod Owned
 pub mod Owners
 pub mod Pair
 pub mod Partnering
+pub mod Walk
+pub mod Walking

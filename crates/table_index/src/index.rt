@@ -3,12 +3,10 @@ ghost use Rattle.std.specs.Prelude.{◌≡◌, length};
 ghost use Rattle.rules_tables.specs.Lawful.{Lawful};
 ghost use Rattle.table_index.specs.Index.{Owners, Indexed, ByEvent, ByState, OutputPartners, index_size};
 
-use crate::chain::chain;
-use crate::pair::pair;
-use rules_tables::Shape;
-use store_words::shape::{
-    actions, associations, connections, inputs, links, outputs, transitions, variables,
-};
+use crate::chain::{Group, chain};
+use crate::indexed::IndexedNetwork;
+use crate::pair::{Side, pair};
+use store_words::network::Network;
 use table_frames::kind::{INPUT, OUTPUT};
 use table_parts::ANY;
 
@@ -33,114 +31,180 @@ pub const VARIABLE_HEADS: usize = 6720;
 
 pub const VARIABLE_PARTNERS: usize = 6912;
 
-// What an event is followed by: its associations, an output's event connections, a variable's data connections.
-fn index_events(t: &[u8], shape: Shape, ix: &mut [u16])
-    requires { Lawful t.now shape × Owners t.now shape × (length ix.old ≡ index_size) }
-    ensures { ByEvent t.now shape ix.new }
-{
-    chain(
-        t,
-        ix,
-        shape.variables_end,
-        associations(shape),
-        256,
-        ASSOCIATION_HEADS,
-        512,
-    );
-    chain(
-        t,
-        ix,
-        shape.steps_end,
-        connections(shape),
-        0,
-        CONNECTION_HEADS,
-        256,
-    );
-    chain(
-        t,
-        ix,
-        shape.connections_end,
-        links(shape),
-        0,
-        LINK_HEADS,
-        512,
-    );
+// A network of which an index can be made: it keeps the rules, and each owner has its entry.
+#[derive(Clone, Copy)]
+struct Indexable<'a> {
+    net: Network<'a>,
+    ghost lawful: { Lawful net.table.now net.shape },
+    ghost owners: { Owners net.table.now net.shape },
 }
 
-// What a chart state is followed by: its transitions and its actions.
-fn index_states(t: &[u8], shape: Shape, ix: &mut [u16])
-    requires { Lawful t.now shape × Owners t.now shape × ByEvent t.now shape ix.old }
-    ensures { ByEvent t.now shape ix.new × ByState t.now shape ix.new }
-{
-    chain(
-        t,
-        ix,
-        shape.states_end,
-        transitions(shape),
-        0,
-        TRANSITION_HEADS,
-        512,
-    );
-    chain(
-        t,
-        ix,
-        shape.transitions_end,
-        actions(shape),
-        0,
-        ACTION_HEADS,
-        512,
-    );
+impl Indexable<'_> {
+    // What an event is followed by: its associations, an output's event connections, a variable's data connections.
+    fn events(&self, ix: &mut [u16])
+        requires { length ix.old ≡ index_size }
+        ensures { ByEvent self.now.net.table.now self.now.net.shape ix.new }
+    {
+        let shape = self.net.shape;
+        chain(
+            self.net.table,
+            ix,
+            Group {
+                first: shape.variables_end,
+                n: shape.associations(),
+                w: 256,
+                base: ASSOCIATION_HEADS,
+                owners: 512,
+            },
+        );
+        chain(
+            self.net.table,
+            ix,
+            Group {
+                first: shape.steps_end,
+                n: shape.connections(),
+                w: 0,
+                base: CONNECTION_HEADS,
+                owners: 256,
+            },
+        );
+        chain(
+            self.net.table,
+            ix,
+            Group {
+                first: shape.connections_end,
+                n: shape.links(),
+                w: 0,
+                base: LINK_HEADS,
+                owners: 512,
+            },
+        );
+    }
+
+    // What a chart state is followed by: its transitions and its actions.
+    fn states(&self, ix: &mut [u16])
+        requires { ByEvent self.now.net.table.now self.now.net.shape ix.old }
+        ensures { ByEvent self.now.net.table.now self.now.net.shape ix.new × ByState self.now.net.table.now self.now.net.shape ix.new }
+    {
+        let shape = self.net.shape;
+        chain(
+            self.net.table,
+            ix,
+            Group {
+                first: shape.states_end,
+                n: shape.transitions(),
+                w: 0,
+                base: TRANSITION_HEADS,
+                owners: 512,
+            },
+        );
+        chain(
+            self.net.table,
+            ix,
+            Group {
+                first: shape.transitions_end,
+                n: shape.actions(),
+                w: 0,
+                base: ACTION_HEADS,
+                owners: 512,
+            },
+        );
+    }
+
+    // The partners of event inputs.
+    fn outputs(&self, ix: &mut [u16])
+        requires { ByEvent self.now.net.table.now self.now.net.shape ix.old × ByState self.now.net.table.now self.now.net.shape ix.old }
+        ensures { ByEvent self.now.net.table.now self.now.net.shape ix.new × ByState self.now.net.table.now self.now.net.shape ix.new × OutputPartners self.now.net.table.now self.now.net.shape ix.new }
+    {
+        let shape = self.net.shape;
+        let n = shape.outputs();
+        chain(
+            self.net.table,
+            ix,
+            Group {
+                first: shape.inputs_end,
+                n,
+                w: 0,
+                base: OUTPUT_HEADS,
+                owners: 64,
+            },
+        );
+        pair(
+            self.net.table,
+            ix,
+            Side {
+                first: shape.elements_end,
+                n: shape.inputs(),
+                flag: ANY,
+            },
+            Side {
+                first: shape.inputs_end,
+                n,
+                flag: ANY,
+            },
+            OUTPUT_HEADS,
+            OUTPUT_PARTNERS,
+        );
+    }
+
+    // The input variables of each element, and their partners: these are found along the outputs, whose first entries are used up.
+    fn variables(&self, ix: &mut [u16])
+        requires { ByEvent self.now.net.table.now self.now.net.shape ix.old × ByState self.now.net.table.now self.now.net.shape ix.old × OutputPartners self.now.net.table.now self.now.net.shape ix.old }
+        ensures { Indexed self.now.net.table.now self.now.net.shape ix.new }
+    {
+        let shape = self.net.shape;
+        let n = shape.variables();
+        chain(
+            self.net.table,
+            ix,
+            Group {
+                first: shape.outputs_end,
+                n,
+                w: 64,
+                base: VARIABLE_HEADS,
+                owners: 192,
+            },
+        );
+        pair(
+            self.net.table,
+            ix,
+            Side {
+                first: shape.outputs_end,
+                n,
+                flag: INPUT,
+            },
+            Side {
+                first: shape.outputs_end,
+                n,
+                flag: OUTPUT,
+            },
+            VARIABLE_HEADS + 64,
+            VARIABLE_PARTNERS,
+        );
+    }
+
+    // Makes the index.
+    fn index(&self, ix: &mut [u16])
+        requires { length ix.old ≡ index_size }
+        ensures { Indexed self.now.net.table.now self.now.net.shape ix.new }
+    {
+        self.events(ix);
+        self.states(ix);
+        self.outputs(ix);
+        self.variables(ix);
+    }
 }
 
-// The partners of event inputs.
-fn index_outputs(t: &[u8], shape: Shape, ix: &mut [u16])
-    requires { Lawful t.now shape × ByEvent t.now shape ix.old × ByState t.now shape ix.old }
-    ensures { ByEvent t.now shape ix.new × ByState t.now shape ix.new × OutputPartners t.now shape ix.new }
-{
-    let n = outputs(shape);
-    chain(t, ix, shape.inputs_end, n, 0, OUTPUT_HEADS, 64);
-    pair(
-        t,
-        ix,
-        shape.elements_end,
-        inputs(shape),
-        ANY,
-        shape.inputs_end,
-        n,
-        ANY,
-        OUTPUT_HEADS,
-        OUTPUT_PARTNERS,
-    );
-}
-
-// The input variables of each element, and their partners: these are found along the outputs, whose first entries are used up.
-fn index_variables(t: &[u8], shape: Shape, ix: &mut [u16])
-    requires { Lawful t.now shape × Owners t.now shape × ByEvent t.now shape ix.old × ByState t.now shape ix.old × OutputPartners t.now shape ix.old }
-    ensures { Indexed t.now shape ix.new }
-{
-    let n = variables(shape);
-    chain(t, ix, shape.outputs_end, n, 64, VARIABLE_HEADS, 192);
-    pair(
-        t,
-        ix,
-        shape.outputs_end,
-        n,
-        INPUT,
-        shape.outputs_end,
-        n,
-        OUTPUT,
-        VARIABLE_HEADS + 64,
-        VARIABLE_PARTNERS,
-    );
-}
-
-// Makes the index of a table.
-pub fn index(t: &[u8], shape: Shape, ix: &mut [u16])
-    requires { Lawful t.now shape × Owners t.now shape × (length ix.old ≡ index_size) }
-    ensures { Indexed t.now shape ix.new }
-{
-    index_events(t, shape, ix);
-    index_states(t, shape, ix);
-    index_outputs(t, shape, ix);
-    index_variables(t, shape, ix);
+impl<'a> IndexedNetwork<'a> {
+    // The network with its index, which is made in `entries`.
+    pub fn new(net: Network<'a>, entries: &'a mut [u16; SIZE]) -> Self
+        requires { Lawful net.table.now net.shape × Owners net.table.now net.shape }
+        ensures { result.net ≡ net.entry }
+    {
+        Indexable { net }.index(entries);
+        IndexedNetwork {
+            net,
+            index: entries,
+        }
+    }
 }

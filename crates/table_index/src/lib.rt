@@ -5,5 +5,7 @@
 pub mod actions;
 pub mod chain;
 pub mod index;
+pub mod indexed;
 pub mod pair;
 pub mod read;
+pub mod walk;

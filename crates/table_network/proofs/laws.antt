@@ -4,4 +4,5 @@ pub mod Known
 pub mod Parts
 pub mod Priorities
 pub mod Rules
+pub mod Shared
 pub mod Windows

@@ -1,7 +1,7 @@
 -- Keys by which repeats are found in one pass: two frames of a kind share what they may not exactly when their keys are equal.
-use Rattle.std.specs.Prelude.{ℕ, ◌+◌, ◌*◌, ◌%◌, ◌<◌, ◌≡◌, Bool, eqb, ltb}
+use Rattle.std.specs.Prelude.{ℕ, ◌+◌, ◌*◌, ◌%◌, ◌<◌, ◌≤◌, ◌≡◌, ◌⊎◌, Bool, eqb, ltb}
 use Rattle.rules_walks.specs.Pick.{pick, both}
-use Rattle.rules_tables.specs.Kind.{event_input, event_output, association, event_connection}
+use Rattle.rules_tables.specs.Kind.{event_input, event_output, association, event_connection, data_connection}
 use Rattle.rules_tables.specs.Frame.{Table, kind_at, flag_at, field_at}
 use Rattle.rules_tables.specs.Place.{count_of}
 use Rattle.rules_tables.specs.Fresh.{alike, same_event}
@@ -30,6 +30,10 @@ key_at k T ys f =
 unfoldable pub keyed : (k : ℕ) → Table → (ys b i g : ℕ) → Bool
 keyed k T ys b i g = both (eqb (kind_at T g) k) (eqb (key_at k T ys g) (b + i))
 
+-- the kinds of which no two frames may share such a key
+abbrev pub Shared : (k : ℕ) → Type 0
+Shared k = (k ≡ event_input) ⊎ ((k ≡ association) ⊎ ((k ≡ event_connection) ⊎ (k ≡ data_connection)))
+
 -- of the first n frames, two of kind k share what they may not exactly when their keys are equal
 pub record Telling (k : ℕ) (T : Table) (ys n : ℕ) : Type 0 where
   pub same : (f g : ℕ) → f < n → g < n → kind_at T f ≡ k → kind_at T g ≡ k → alike k T f g ≡ eqb (key_at k T ys g) (key_at k T ys f)
@@ -37,6 +41,13 @@ pub record Telling (k : ℕ) (T : Table) (ys n : ℕ) : Type 0 where
 -- and those of kind k have so many keys
 pub record Spanning (k : ℕ) (T : Table) (ys keys n : ℕ) : Type 0 where
   pub below : (f : ℕ) → f < n → kind_at T f ≡ k → key_at k T ys f < keys
+
+-- the keys of kind k are pairs of one of so many x and one of so many y
+pub record Paired (k : ℕ) (T : Table) (n xs ys : ℕ) : Type 0 where
+  pub few_xs : xs ≤ 4096
+  pub few_ys : ys ≤ 4096
+  pub telling : Telling k T ys n
+  pub spanning : Spanning k T ys (xs * ys) n
 
 -- the event of association f among all events: the outputs behind the inputs
 unfoldable pub slot_of : Table → (inputs f : ℕ) → ℕ

@@ -1,3 +1,4 @@
+pub mod Class
 pub mod Counted
 pub mod Keys
 pub mod Known

@@ -1,31 +1,28 @@
 // At most eight variables for one event.
 ghost use Rattle.std.specs.Prelude.{◌≡◌, not, ◌+◌, ◌<◌, ◌≤◌, length, get_or, set as «set_at»};
 ghost use Rattle.rules_walks.specs.Held.{held_to};
-ghost use Rattle.rules_tables.specs.Kind.{association};
-ghost use Rattle.rules_tables.specs.Frame.{frames_of, kind_at};
+ghost use Rattle.rules_tables.specs.Kind.{association, event_output};
+ghost use Rattle.rules_tables.specs.Frame.{kind_at};
+ghost use Rattle.rules_tables.specs.Place.{count_of};
 ghost use Rattle.rules_tables.specs.Fresh.{eight_at_most};
 ghost use Rattle.table_network.specs.Counted.{Counted};
 ghost use Rattle.table_network.specs.Keys.{slot_of, slotted, Slotting};
-ghost use Rattle.table_network.specs.Known.{Stretches, Known};
 ghost use Rattle.table_network.specs.Windows.{in_window};
 
-use crate::start::start;
+use crate::front::Front;
 use numbers_bits::clear;
 use table_frames::frame::{field, flag};
-use table_frames::kind::{ASSOCIATION, EVENT_INPUT, EVENT_OUTPUT, OF_INPUT};
-use table_frames::place::count;
+use table_frames::kind::{Kind, OF_INPUT};
 
-// The event of association f among all events: the outputs behind the inputs.
-fn slot(t: &[u8], inputs: usize, f: usize) -> usize
-    requires { (f < frames_of t.now) × (inputs ≤ 4096) }
-    ensures { result ≡ slot_of t.now inputs f }
-{
-    let event = field(t, f, 0);
-    if flag(t, f) == OF_INPUT {
-        event
-    } else {
-        inputs + event
-    }
+// The associations among the first frames, and the events that they are of: the outputs behind the inputs.
+#[derive(Clone, Copy)]
+pub struct Eight<'a> {
+    front: Front<'a>,
+    inputs: usize,
+    slots: usize,
+    ghost few: { (inputs ≤ 4096) × (slots ≤ 8192) },
+    ghost slotting: { Slotting front.kinds.table.now inputs front.n },
+    ghost all: { slots ≡ inputs + count_of front.kinds.table.now event_output },
 }
 
 // Counts one more at i, and tells how many there were.
@@ -38,77 +35,74 @@ fn one_more(counts: &mut [u32], i: usize) -> u32
     c
 }
 
-// The event of association f is one of those from b on that are counted, and has eight variables before it.
-// The associations before f are counted by their events, and then f too.
-fn ninth(t: &[u8], counts: &mut [u32], inputs: usize, b: usize, n: usize, f: usize) -> bool
-    requires { (n ≤ frames_of t.now) × (frames_of t.now ≤ 4096) × (f < n) × (kind_at t.now f ≡ association) × (inputs ≤ 4096) × Slotting t.now inputs n × Counted (slotted t.now inputs b) counts.old f }
-    ensures { (result ≡ not (in_window (eight_at_most t.now) (slot_of t.now inputs) b (length counts.old) f)) × Counted (slotted t.now inputs b) counts.new (f + 1) }
-{
-    let s = slot(t, inputs, f);
-    if s < b {
-        return false;
-    }
-    let j = s - b;
-    if j < counts.len() {
-        8 <= one_more(counts, j)
-    } else {
-        false
-    }
-}
-
-// How many frames of the first n come before the first association of a ninth variable, as far as its event is one of those from b on for which there
-// are counts.
-fn window_end(
-    t: &[u8],
-    counts: &mut [u32],
-    from: &[usize; 13],
-    inputs: usize,
-    b: usize,
-    n: usize,
-) -> usize
-    requires { Stretches t.now from.now n × (frames_of t.now ≤ 4096) × (inputs ≤ 4096) × Slotting t.now inputs n }
-    ensures { (result ≡ held_to (in_window (eight_at_most t.now) (slot_of t.now inputs) b (length counts.old)) n) × (result ≤ n) }
-{
-    clear(counts);
-    let hi = start(from, ASSOCIATION + 1, n);
-    let mut f = start(from, ASSOCIATION, n);
-    while f < hi {
-        if ninth(t, counts, inputs, b, n, f) {
-            return f;
+impl<'a> Eight<'a> {
+    pub fn of(front: &Front<'a>) -> Eight<'a>
+        ensures { result.front ≡ front.now }
+    {
+        let inputs = front.count(Kind::EventInput);
+        Eight {
+            front: *front,
+            inputs,
+            slots: inputs + front.count(Kind::EventOutput),
         }
-        f += 1;
     }
-    n
-}
 
-// How many of so many counts there is room for.
-fn counts_for(slots: usize, room: usize) -> usize
-    requires { (0 < slots) × (0 < room) }
-    ensures { (0 < result) × (result ≤ room) }
-{
-    if slots < room { slots } else { room }
-}
-
-// How many frames of the first n come before the first association of a ninth variable. A table within its limits takes one pass, no table more than two.
-pub fn eight_end(
-    t: &[u8],
-    counts: &mut [u32],
-    at: &[usize; 13],
-    from: &[usize; 13],
-    n: usize,
-) -> usize
-    requires { Known t.now at.now from.now n × (0 < length counts.old) × (length counts.old ≤ 2048) }
-    ensures { (result ≡ held_to (eight_at_most t.now) n) × (result ≤ n) }
-{
-    let room = counts.len();
-    let inputs = count(t, at, EVENT_INPUT);
-    let slots = inputs + count(t, at, EVENT_OUTPUT);
-    let mut e = n;
-    let mut b = 0;
-    while b < slots {
-        let w = counts_for(slots - b, room);
-        e = window_end(t, &mut counts[..w], from, inputs, b, e);
-        b += w;
+    // The event of association f among all events.
+    #[tactic(auto, unfolding(crate::specs::Keys::slot_of))]
+    fn slot(&self, f: usize) -> usize
+        requires { f < self.now.front.n }
+        ensures { result ≡ slot_of self.now.front.kinds.table.now self.now.inputs f }
+    {
+        let t = self.front.kinds.table;
+        let event = field(t, f, 0);
+        if flag(t, f) == OF_INPUT {
+            event
+        } else {
+            self.inputs + event
+        }
     }
-    e
+
+    // The event of association f is one of those from b on that are counted, and has eight variables before it.
+    // The associations before f are counted by their events, and then f too.
+    fn ninth(&self, counts: &mut [u32], b: usize, f: usize) -> bool
+        requires { (f < self.now.front.n) × (kind_at self.now.front.kinds.table.now f ≡ association) × Counted (slotted self.now.front.kinds.table.now self.now.inputs b) counts.old f }
+        ensures { (result ≡ not (in_window (eight_at_most self.now.front.kinds.table.now) (slot_of self.now.front.kinds.table.now self.now.inputs) b (length counts.old) f)) × Counted (slotted self.now.front.kinds.table.now self.now.inputs b) counts.new (f + 1) }
+    {
+        match self.slot(f).checked_sub(b) {
+            Some(i) if i < counts.len() => 8 <= one_more(counts, i),
+            _ => false,
+        }
+    }
+
+    // How many frames of the first n come before the first association of a ninth variable, as far as its event is one of those from b on for which there
+    // are counts.
+    fn window_end(&self, counts: &mut [u32], b: usize, n: usize) -> usize
+        requires { n ≤ self.now.front.n }
+        ensures { (result ≡ held_to (in_window (eight_at_most self.now.front.kinds.table.now) (slot_of self.now.front.kinds.table.now self.now.inputs) b (length counts.old)) n) × (result ≤ n) }
+    {
+        clear(counts);
+        let (lo, hi) = self.front.first(n).row(Kind::Association);
+        for f in lo..hi {
+            if self.ninth(counts, b, f) {
+                return f;
+            }
+        }
+        n
+    }
+
+    // How many frames come before the first association of a ninth variable. A table within its limits takes one pass, no table more than two.
+    pub fn end(&self, counts: &mut [u32]) -> usize
+        requires { (0 < length counts.old) × (length counts.old ≤ 2048) }
+        ensures { (result ≡ held_to (eight_at_most self.now.front.kinds.table.now) self.now.front.n) × (result ≤ self.now.front.n) }
+    {
+        let mut e = self.front.n;
+        let mut b = 0;
+        // Stays a `while`: a window is as long as the events that are left need, so the step is not always the same.
+        while b < self.slots {
+            let w = (self.slots - b).min(counts.len());
+            e = self.window_end(&mut counts[..w], b, e);
+            b += w;
+        }
+        e
+    }
 }

@@ -7,36 +7,46 @@ ghost use Rattle.rules_walks.specs.All.{all_to};
 ghost use Rattle.rules_walks.specs.Held.{held_to};
 ghost use Rattle.rules_tables.specs.Kind.{association, event_connection, data_connection};
 ghost use Rattle.rules_tables.specs.Frame.{frames_of};
-ghost use Rattle.rules_tables.specs.Place.{Starts};
 ghost use Rattle.rules_tables.specs.Form.{form_ok};
 ghost use Rattle.rules_tables.specs.Reference.{refers_ok};
 ghost use Rattle.rules_tables.specs.Fresh.{fresh, eight_at_most};
 ghost use Rattle.rules_tables.specs.Network.{rules_ok};
 ghost use Rattle.table_frames.specs.StartsTo.{StartsTo};
-ghost use Rattle.table_network.specs.Known.{Known};
 
+mod class;
 mod eight;
+mod element;
 mod fresh;
-mod pairs;
+mod front;
 mod parts;
 mod priorities;
 mod shapes;
-mod start;
+
+use eight::Eight;
+use fresh::Fresh;
+use front::Front;
+use priorities::priorities_end;
+use shapes::shapes_end;
+use table_frames::kind::Kind;
+use table_frames::kinds::Kinds;
 
 // How many frames, from the first on and of the first n, keep the network rules. The first m frames have their form, and the first n refer rightly.
-// Entry k of `at` tells how many frames have a kind below k, that of `from` how many of the first m.
+// Entry k of `from` tells how many of the first m have a kind below k.
 // To clear a set costs a small table more than all else, so it has a small one. The large one takes 6 KB of the stack,
 // below the index of a call that makes one.
-pub fn network_end(t: &[u8], at: &[usize; 13], from: &[usize; 13], m: usize, n: usize) -> usize
-    requires { Starts t.now at.now × StartsTo t.now m from.now × (n ≤ m) × (m ≤ frames_of t.now) × (frames_of t.now ≤ 4096) × (all_to (form_ok t.now) m ≡ true) × (all_to (refers_ok t.now) n ≡ true) }
-    ensures { result ≡ held_to (rules_ok t.now) n }
+pub fn network_end(kinds: &Kinds, from: &[usize; 13], m: usize, n: usize) -> usize
+    requires { StartsTo kinds.now.table.now m from.now × (n ≤ m) × (m ≤ frames_of kinds.now.table.now) × (frames_of kinds.now.table.now ≤ 4096) × (all_to (form_ok kinds.now.table.now) m ≡ true) × (all_to (refers_ok kinds.now.table.now) n ≡ true) }
+    ensures { result ≡ held_to (rules_ok kinds.now.table.now) n }
 {
-    if t.len() <= SMALL {
-        let mut set = [0u32; 32];
-        rules_end(t, &mut set, at, from, m, n)
+    let front = Front {
+        kinds: *kinds,
+        from,
+        n,
+    };
+    if kinds.table.len() <= SMALL {
+        rules_end(&front, &mut [0u32; 32], m)
     } else {
-        let mut set = [0u32; 1536];
-        rules_end(t, &mut set, at, from, m, n)
+        rules_end(&front, &mut [0u32; 1536], m)
     }
 }
 
@@ -44,36 +54,25 @@ pub fn network_end(t: &[u8], at: &[usize; 13], from: &[usize; 13], m: usize, n: 
 const SMALL: usize = 768;
 
 // The same with a set of any size; each rule that needs it clears what it needs of it.
-fn rules_end(
-    t: &[u8],
-    set: &mut [u32],
-    at: &[usize; 13],
-    from: &[usize; 13],
-    m: usize,
-    n: usize,
-) -> usize
-    requires { Known t.now at.now from.now n × (all_to (form_ok t.now) m ≡ true) × (0 < length set.old) × (length set.old ≤ 2048) }
-    ensures { result ≡ held_to (rules_ok t.now) n }
+// The passes stay one line each and no list of closures: each of them needs what the one before left, and some need the set. Its bounds stay clauses: a type
+// round a lent slice would be opened at each use.
+fn rules_end(front: &Front, set: &mut [u32], m: usize) -> usize
+    requires { (all_to (form_ok front.now.kinds.table.now) m ≡ true) × (0 < length set.old) × (length set.old ≤ 2048) }
+    ensures { result ≡ held_to (rules_ok front.now.kinds.table.now) front.now.n }
 {
-    let a = priorities::priorities_end(t, from, n);
-    let b = shapes::shapes_end(t, at, from, m, a);
-    let c = pairs::local_priorities_end(t, set, at, from, b);
-    connections_end(t, set, at, from, c)
+    let front = front.first(priorities_end(front));
+    let front = front.first(shapes_end(&front, m));
+    let front = front.first(Fresh::of(&front, Kind::EventInput).end(set));
+    connections_end(&front, set)
 }
 
 // The rules of associations and connections.
-fn connections_end(
-    t: &[u8],
-    set: &mut [u32],
-    at: &[usize; 13],
-    from: &[usize; 13],
-    n: usize,
-) -> usize
-    requires { Known t.now at.now from.now n × (0 < length set.old) × (length set.old ≤ 2048) }
-    ensures { result ≡ held_to (fresh data_connection t.now) (held_to (fresh event_connection t.now) (held_to (eight_at_most t.now) (held_to (fresh association t.now) n))) }
+fn connections_end(front: &Front, set: &mut [u32]) -> usize
+    requires { (0 < length set.old) × (length set.old ≤ 2048) }
+    ensures { result ≡ held_to (fresh data_connection front.now.kinds.table.now) (held_to (fresh event_connection front.now.kinds.table.now) (held_to (eight_at_most front.now.kinds.table.now) (held_to (fresh association front.now.kinds.table.now) front.now.n))) }
 {
-    let a = pairs::associations_end(t, set, at, from, n);
-    let b = eight::eight_end(t, set, at, from, a);
-    let c = pairs::event_connections_end(t, set, at, from, b);
-    pairs::data_connections_end(t, set, at, from, c)
+    let front = front.first(Fresh::of(front, Kind::Association).end(set));
+    let front = front.first(Eight::of(&front).end(set));
+    let front = front.first(Fresh::of(&front, Kind::EventConnection).end(set));
+    Fresh::of(&front, Kind::DataConnection).end(set)
 }

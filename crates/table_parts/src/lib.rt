@@ -8,28 +8,16 @@ ghost use Rattle.table_parts.specs.Found.{found_of};
 
 use table_frames::frame::{field, flag};
 
-// In place of a flag: whatever flag it has.
+// In place of a flag: whatever flag it has. It stays a number as in the definitions: a flag is a byte, so none is 256, and the loops compare one number.
 pub const ANY: usize = 256;
 
-#[derive(Clone, Copy)]
-pub enum Found {
-    One(usize),
-    Missing,
-}
-
 // The j-th frame from `first` on belongs to x and has flag g.
+#[tactic(auto, unfolding(rules_tables::specs::Owned::belongs))]
 pub fn belongs(t: &[u8], first: usize, g: usize, x: usize, j: usize) -> bool
     requires { first + j < frames_of t.now }
     ensures { result ≡ belongs_at t.now first g x j }
 {
-    if g == ANY {
-        return field(t, first + j, 0) == x;
-    }
-    if flag(t, first + j) == g {
-        field(t, first + j, 0) == x
-    } else {
-        false
-    }
+    (g == ANY || flag(t, first + j) == g) && field(t, first + j, 0) == x
 }
 
 // How many of the frames before the j-th do.
@@ -38,33 +26,27 @@ pub fn rank(t: &[u8], first: usize, g: usize, x: usize, j: usize) -> usize
     ensures { (result ≡ rank_of t.now first g x j) × (result ≤ j) }
 {
     let mut c = 0;
-    let mut i = 0;
-    while i < j {
+    for i in 0..j {
         if belongs(t, first, g, x, i) {
             c += 1;
         }
-        i += 1;
     }
     c
 }
 
 // The k-th of them, counted from 0, among n frames.
-pub fn nth(t: &[u8], first: usize, n: usize, g: usize, x: usize, k: usize) -> Found
+pub fn nth(t: &[u8], first: usize, n: usize, g: usize, x: usize, k: usize) -> Option<usize>
     requires { first + n ≤ frames_of t.now }
     ensures { result ≡ found_of (nth_of t.now first n g x k) }
 {
     let mut c = 0;
-    let mut j = 0;
-    loop {
-        if n <= j {
-            break Found::Missing;
-        }
+    for j in 0..n {
         if belongs(t, first, g, x, j) {
             if c == k {
-                break Found::One(j);
+                return Some(j);
             }
             c += 1;
         }
-        j += 1;
     }
+    None
 }

@@ -1,2 +1,3 @@
 pub mod laws
+mod Coded
 mod Owned

@@ -1,362 +1,224 @@
 // Refusal 3: the references of a frame, one function for each rule.
 #![tactic(auto)]
 
-ghost use Rattle.std.specs.Prelude.{◌≡◌, true, ◌+◌, ◌<◌, ◌≤◌};
+mod walk;
+
+ghost use Rattle.std.specs.Prelude.{◌≡◌, true, ◌<◌, ◌≤◌};
 ghost use Rattle.rules_walks.specs.All.{all_to};
 ghost use Rattle.rules_walks.specs.Held.{held_to};
-ghost use Rattle.rules_tables.specs.Kind.{element, step};
+ghost use Rattle.rules_tables.specs.Kind.{element};
 ghost use Rattle.rules_tables.specs.Frame.{frames_of, kind_at, flag_at};
-ghost use Rattle.rules_tables.specs.Place.{Starts, count_to, count_of};
+ghost use Rattle.rules_tables.specs.Place.{count_to};
 ghost use Rattle.rules_tables.specs.Form.{form_ok, used_of};
-ghost use Rattle.table_frames.specs.Placed.{Located};
-ghost use Rattle.table_references.specs.Known.{Known, Reaches};
-ghost use Rattle.rules_tables.specs.Reference.{initial_state, of_element, joins as «joins_at», associates as «associates_at», of_basic, maybe_owned, uses_own, transits as «transits_at», result_of, steps_of, acts as «acts_at», steps_to, connects_events, variable_with, connects_data, refers_ok};
+ghost use Rattle.table_frames.specs.Kind.{kind_number};
+ghost use Rattle.table_references.specs.Known.{Reaches};
+ghost use Rattle.rules_tables.specs.Reference.{initial_state, of_element, joins as «joins_at», associates as «associates_at», of_basic, maybe_owned, uses_own, transits as «transits_at», steps_to, connects_events, variable_with, connects_data, refers_ok};
 
-use table_frames::form::{step_used, transition_used};
+use crate::walk::Walk;
+use table_frames::form::used;
 use table_frames::frame::{field, flag, kind};
-use table_frames::kind::{
-    ACTION, ASSOCIATION, BASIC, CHART_STATE, DATA_CONNECTION, ELEMENT, EVENT_CONNECTION,
-    EVENT_INPUT, EVENT_OUTPUT, INPUT, INTERFACE, NONE, OF_INPUT, OUTPUT, STEP, TRANSITION,
-    VARIABLE,
-};
-use table_frames::place::{count, exists, owned, owner, place, sort_is};
+use table_frames::frames::Frames;
+use table_frames::kind::{BASIC, INPUT, INTERFACE, Kind, NONE, OF_INPUT, OUTPUT};
 
 // Steps whose results are known to be of one element: those from `first` to before `end`. An action may have the steps of the action
 // before it; these are then not looked at once more.
-#[derive(Clone, Copy)]
+#[derive(Clone, Copy, Default)]
 pub struct Run {
     pub element: usize,
     pub first: usize,
     pub end: usize,
 }
 
-// 01: a basic element's initial state is its own; an element's id is its frame.
-fn initial_state(t: &[u8], at: &[usize; 13], places: &[u16], f: usize) -> bool
-    requires { Starts t.now at.now × (f < frames_of t.now) × (count_to t.now element f ≡ f) × Located t.now places.now }
-    ensures { result ≡ initial_state t.now f }
-{
-    if flag(t, f) != BASIC {
-        return true;
+impl Run {
+    // How many steps from b on are known to have results of element el.
+    fn known_from(self, b: usize, el: usize) -> usize
+        requires { self.first ≤ self.end }
+        ensures { Reaches self b el result }
+    {
+        if self.element == el && self.first <= b {
+            self.end.saturating_sub(b)
+        } else {
+            0
+        }
     }
-    owned(t, at, places, CHART_STATE, field(t, f, 1), f)
+}
+
+// 01: a basic element's initial state is its own; an element's id is its frame.
+fn initial_state(frames: &Frames, f: usize) -> bool
+    requires { (f < frames_of frames.now.kinds.table.now) × (count_to frames.now.kinds.table.now element f ≡ f) }
+    ensures { result ≡ initial_state frames.now.kinds.table.now f }
+{
+    let t = frames.kinds.table;
+    flag(t, f) != BASIC || frames.owned(Kind::ChartState, field(t, f, 1), f)
 }
 
 // 02, 03, 04: of an element that exists.
-fn of_element(t: &[u8], at: &[usize; 13], f: usize) -> bool
-    requires { Starts t.now at.now × (f < frames_of t.now) }
-    ensures { result ≡ of_element t.now f }
+fn of_element(frames: &Frames, f: usize) -> bool
+    requires { f < frames_of frames.now.kinds.table.now }
+    ensures { result ≡ of_element frames.now.kinds.table.now f }
 {
-    exists(t, at, ELEMENT, field(t, f, 0))
+    frames.exists(Kind::Element, field(frames.kinds.table, f, 0))
 }
 
-// An event of kind k and a variable of role g, of one element.
-fn joins(t: &[u8], at: &[usize; 13], places: &[u16], f: usize, k: usize, g: usize) -> bool
-    requires { Starts t.now at.now × (f < frames_of t.now) × (k < 12) × Located t.now places.now }
-    ensures { result ≡ joins_at t.now f k g }
+// An event of this kind and a variable of role g, of one element.
+fn joins(frames: &Frames, f: usize, kind: Kind, g: usize) -> bool
+    requires { f < frames_of frames.now.kinds.table.now }
+    ensures { result ≡ joins_at frames.now.kinds.table.now f (kind_number kind) g }
 {
+    let t = frames.kinds.table;
     let event = field(t, f, 0);
     let v = field(t, f, 1);
-    if !exists(t, at, k, event) {
+    if !frames.exists(kind, event) {
         return false;
     }
-    if !exists(t, at, VARIABLE, v) {
+    if !frames.exists(Kind::Variable, v) {
         return false;
     }
-    let p = place(t, at, places, VARIABLE, v);
-    if field(t, p, 0) == owner(t, at, places, k, event) {
-        flag(t, p) == g
-    } else {
-        false
-    }
+    let p = frames.place(Kind::Variable, v);
+    field(t, p, 0) == frames.owner(kind, event) && flag(t, p) == g
 }
 
 // 05.
-fn associates(t: &[u8], at: &[usize; 13], places: &[u16], f: usize) -> bool
-    requires { Starts t.now at.now × (f < frames_of t.now) × Located t.now places.now }
-    ensures { result ≡ associates_at t.now f }
+fn associates(frames: &Frames, f: usize) -> bool
+    requires { f < frames_of frames.now.kinds.table.now }
+    ensures { result ≡ associates_at frames.now.kinds.table.now f }
 {
+    let t = frames.kinds.table;
     if flag(t, f) == OF_INPUT {
-        return joins(t, at, places, f, EVENT_INPUT, INPUT);
+        return joins(frames, f, Kind::EventInput, INPUT);
     }
-    if joins(t, at, places, f, EVENT_OUTPUT, OUTPUT) {
-        !sort_is(
-            t,
-            at,
-            places,
-            owner(t, at, places, EVENT_OUTPUT, field(t, f, 0)),
-            INTERFACE,
-        )
-    } else {
-        false
-    }
+    joins(frames, f, Kind::EventOutput, OUTPUT)
+        && !frames.sort_is(frames.owner(Kind::EventOutput, field(t, f, 0)), INTERFACE)
 }
 
 // 06: of a basic element.
-fn of_basic(t: &[u8], at: &[usize; 13], places: &[u16], f: usize) -> bool
-    requires { Starts t.now at.now × (f < frames_of t.now) × Located t.now places.now }
-    ensures { result ≡ of_basic t.now f }
+fn of_basic(frames: &Frames, f: usize) -> bool
+    requires { f < frames_of frames.now.kinds.table.now }
+    ensures { result ≡ of_basic frames.now.kinds.table.now f }
 {
-    sort_is(t, at, places, field(t, f, 0), BASIC)
+    frames.sort_is(field(frames.kinds.table, f, 0), BASIC)
 }
 
 // An id that may be none, else is of element el.
-fn maybe_owned(t: &[u8], at: &[usize; 13], places: &[u16], k: usize, id: usize, el: usize) -> bool
-    requires { Starts t.now at.now × (k < 12) × Located t.now places.now }
-    ensures { result ≡ maybe_owned t.now k id el }
+fn maybe_owned(frames: &Frames, kind: Kind, id: usize, el: usize) -> bool
+    ensures { result ≡ maybe_owned frames.now.kinds.table.now (kind_number kind) id el }
 {
-    if id == NONE {
-        return true;
-    }
-    owned(t, at, places, k, id, el)
+    id == NONE || frames.owned(kind, id, el)
 }
 
 // Field j, if it is one of the u that the frame uses, is a variable of element el.
-fn uses_own(
-    t: &[u8],
-    at: &[usize; 13],
-    places: &[u16],
-    f: usize,
-    u: usize,
-    j: usize,
-    el: usize,
-) -> bool
-    requires { Starts t.now at.now × (f < frames_of t.now) × (j < 5) × (u ≡ used_of (kind_at t.now f) (flag_at t.now f)) × Located t.now places.now }
-    ensures { result ≡ uses_own t.now f j el }
+fn uses_own(frames: &Frames, f: usize, u: usize, j: usize, el: usize) -> bool
+    requires { (f < frames_of frames.now.kinds.table.now) × (j < 5) × (u ≡ used_of (kind_at frames.now.kinds.table.now f) (flag_at frames.now.kinds.table.now f)) }
+    ensures { result ≡ uses_own frames.now.kinds.table.now f j el }
 {
-    if u <= j {
-        return true;
-    }
-    owned(t, at, places, VARIABLE, field(t, f, j), el)
+    u <= j || frames.owned(Kind::Variable, field(frames.kinds.table, f, j), el)
 }
 
 // 07: states, event and variables of one element.
-fn transits(t: &[u8], at: &[usize; 13], places: &[u16], f: usize, u: usize) -> bool
-    requires { Starts t.now at.now × (f < frames_of t.now) × (u ≡ used_of (kind_at t.now f) (flag_at t.now f)) × Located t.now places.now }
-    ensures { result ≡ transits_at t.now f }
+fn transits(frames: &Frames, f: usize, u: usize) -> bool
+    requires { (f < frames_of frames.now.kinds.table.now) × (u ≡ used_of (kind_at frames.now.kinds.table.now f) (flag_at frames.now.kinds.table.now f)) }
+    ensures { result ≡ transits_at frames.now.kinds.table.now f }
 {
+    let t = frames.kinds.table;
     let from = field(t, f, 0);
-    if !exists(t, at, CHART_STATE, from) {
+    if !frames.exists(Kind::ChartState, from) {
         return false;
     }
-    let el = owner(t, at, places, CHART_STATE, from);
-    if !owned(t, at, places, CHART_STATE, field(t, f, 1), el) {
+    let el = frames.owner(Kind::ChartState, from);
+    if !frames.owned(Kind::ChartState, field(t, f, 1), el) {
         return false;
     }
-    if !maybe_owned(t, at, places, EVENT_INPUT, field(t, f, 2), el) {
+    if !maybe_owned(frames, Kind::EventInput, field(t, f, 2), el) {
         return false;
     }
-    if uses_own(t, at, places, f, u, 3, el) {
-        uses_own(t, at, places, f, u, 4, el)
-    } else {
-        false
-    }
-}
-
-// How many steps from b on are known to have results of element el.
-fn known_from(run: Run, b: usize, el: usize) -> usize
-    requires { run.first ≤ run.end }
-    ensures { Reaches run b el result }
-{
-    if run.element != el {
-        return 0;
-    }
-    if b < run.first {
-        return 0;
-    }
-    if b < run.end { run.end - b } else { 0 }
-}
-
-// The results of n steps from b on are of element el; of the first `known` of them it is known.
-fn results(
-    t: &[u8],
-    at: &[usize; 13],
-    places: &[u16],
-    b: usize,
-    known: usize,
-    n: usize,
-    el: usize,
-) -> bool
-    requires { Starts t.now at.now × (b + n ≤ count_of t.now step) × (all_to (result_of t.now b el) known ≡ true) × Located t.now places.now }
-    ensures { result ≡ all_to (result_of t.now b el) n }
-{
-    let mut i = known;
-    while i < n {
-        let v = owner(t, at, places, STEP, b + i);
-        if !owned(t, at, places, VARIABLE, v, el) {
-            return false;
-        }
-        i += 1;
-    }
-    true
-}
-
-// The n steps from b on exist, and their results are of element el.
-fn steps_of(
-    t: &[u8],
-    at: &[usize; 13],
-    places: &[u16],
-    run: Run,
-    b: usize,
-    n: usize,
-    el: usize,
-) -> bool
-    requires { Starts t.now at.now × (b < 65536) × (n < 65536) × Located t.now places.now × Known t.now run }
-    ensures { result ≡ steps_of t.now b n el }
-{
-    if n == 0 {
-        return true;
-    }
-    if b + n <= count(t, at, STEP) {
-        results(t, at, places, b, known_from(run, b, el), n, el)
-    } else {
-        false
-    }
-}
-
-// 08: steps, results and output event of the state's element.
-fn acts(t: &[u8], at: &[usize; 13], places: &[u16], run: Run, f: usize) -> bool
-    requires { Starts t.now at.now × (f < frames_of t.now) × Located t.now places.now × Known t.now run }
-    ensures { result ≡ acts_at t.now f }
-{
-    let state = field(t, f, 0);
-    if !exists(t, at, CHART_STATE, state) {
-        return false;
-    }
-    let el = owner(t, at, places, CHART_STATE, state);
-    if steps_of(t, at, places, run, field(t, f, 1), field(t, f, 2), el) {
-        maybe_owned(t, at, places, EVENT_OUTPUT, field(t, f, 3), el)
-    } else {
-        false
-    }
-}
-
-// What is known of the steps after action f, which refers rightly: its own steps, and those known before where these go on from there.
-fn known_after(t: &[u8], at: &[usize; 13], places: &[u16], run: Run, f: usize) -> Run
-    requires { Starts t.now at.now × (f < frames_of t.now) × (acts_at t.now f ≡ true) × Located t.now places.now × Known t.now run }
-    ensures { Known t.now result }
-{
-    let n = field(t, f, 2);
-    if n == 0 {
-        return run;
-    }
-    let first = field(t, f, 1);
-    let element = owner(t, at, places, CHART_STATE, field(t, f, 0));
-    let end = first + n;
-    if known_from(run, first, element) == 0 {
-        return Run {
-            element,
-            first,
-            end,
-        };
-    }
-    if end <= run.end {
-        return run;
-    }
-    Run {
-        element,
-        first: run.first,
-        end,
-    }
+    uses_own(frames, f, u, 3, el) && uses_own(frames, f, u, 4, el)
 }
 
 // 09: variables of one basic element, the result not an input.
-fn steps_to(t: &[u8], at: &[usize; 13], places: &[u16], f: usize, u: usize) -> bool
-    requires { Starts t.now at.now × (f < frames_of t.now) × (u ≡ used_of (kind_at t.now f) (flag_at t.now f)) × Located t.now places.now }
-    ensures { result ≡ steps_to t.now f }
+fn steps_to(frames: &Frames, f: usize, u: usize) -> bool
+    requires { (f < frames_of frames.now.kinds.table.now) × (u ≡ used_of (kind_at frames.now.kinds.table.now f) (flag_at frames.now.kinds.table.now f)) }
+    ensures { result ≡ steps_to frames.now.kinds.table.now f }
 {
+    let t = frames.kinds.table;
     let v = field(t, f, 0);
-    if !exists(t, at, VARIABLE, v) {
+    if !frames.exists(Kind::Variable, v) {
         return false;
     }
-    let p = place(t, at, places, VARIABLE, v);
+    let p = frames.place(Kind::Variable, v);
     if flag(t, p) == INPUT {
         return false;
     }
     let el = field(t, p, 0);
-    if !sort_is(t, at, places, el, BASIC) {
+    if !frames.sort_is(el, BASIC) {
         return false;
     }
-    if uses_own(t, at, places, f, u, 1, el) {
-        uses_own(t, at, places, f, u, 2, el)
-    } else {
-        false
-    }
+    uses_own(frames, f, u, 1, el) && uses_own(frames, f, u, 2, el)
 }
 
 // 0A: from an event output to an event input.
-fn connects_events(t: &[u8], at: &[usize; 13], f: usize) -> bool
-    requires { Starts t.now at.now × (f < frames_of t.now) }
-    ensures { result ≡ connects_events t.now f }
+fn connects_events(frames: &Frames, f: usize) -> bool
+    requires { f < frames_of frames.now.kinds.table.now }
+    ensures { result ≡ connects_events frames.now.kinds.table.now f }
 {
-    if exists(t, at, EVENT_OUTPUT, field(t, f, 0)) {
-        exists(t, at, EVENT_INPUT, field(t, f, 1))
-    } else {
-        false
-    }
+    let t = frames.kinds.table;
+    frames.exists(Kind::EventOutput, field(t, f, 0))
+        && frames.exists(Kind::EventInput, field(t, f, 1))
 }
 
 // A variable of role g.
-fn variable_with(t: &[u8], at: &[usize; 13], places: &[u16], v: usize, g: usize) -> bool
-    requires { Starts t.now at.now × Located t.now places.now }
-    ensures { result ≡ variable_with t.now v g }
+fn variable_with(frames: &Frames, v: usize, g: usize) -> bool
+    ensures { result ≡ variable_with frames.now.kinds.table.now v g }
 {
-    if exists(t, at, VARIABLE, v) {
-        flag(t, place(t, at, places, VARIABLE, v)) == g
-    } else {
-        false
-    }
+    frames.exists(Kind::Variable, v) && frames.flag_of(Kind::Variable, v) == g
 }
 
 // 0B: from an output to an input variable.
-fn connects_data(t: &[u8], at: &[usize; 13], places: &[u16], f: usize) -> bool
-    requires { Starts t.now at.now × (f < frames_of t.now) × Located t.now places.now }
-    ensures { result ≡ connects_data t.now f }
+fn connects_data(frames: &Frames, f: usize) -> bool
+    requires { f < frames_of frames.now.kinds.table.now }
+    ensures { result ≡ connects_data frames.now.kinds.table.now f }
 {
-    if variable_with(t, at, places, field(t, f, 0), OUTPUT) {
-        variable_with(t, at, places, field(t, f, 1), INPUT)
-    } else {
-        false
-    }
+    let t = frames.kinds.table;
+    variable_with(frames, field(t, f, 0), OUTPUT) && variable_with(frames, field(t, f, 1), INPUT)
 }
 
-// The references of frame f, by its kind k.
-fn refers_ok(t: &[u8], at: &[usize; 13], places: &[u16], run: Run, f: usize, k: usize) -> bool
-    requires { Starts t.now at.now × (f < frames_of t.now) × (k ≡ kind_at t.now f) × (k ≡ element → count_to t.now element f ≡ f) × Located t.now places.now × Known t.now run }
-    ensures { result ≡ refers_ok t.now f }
+// The references of frame f, by its kind.
+fn refers_ok(walk: &Walk, f: usize, kind: Kind) -> bool
+    requires { (f < frames_of walk.now.frames.kinds.table.now) × (kind_number kind ≡ kind_at walk.now.frames.kinds.table.now f) × (kind_at walk.now.frames.kinds.table.now f ≡ element → count_to walk.now.frames.kinds.table.now element f ≡ f) }
+    ensures { result ≡ refers_ok walk.now.frames.kinds.table.now f }
 {
-    match k {
-        ELEMENT => initial_state(t, at, places, f),
-        ASSOCIATION => associates(t, at, places, f),
-        CHART_STATE => of_basic(t, at, places, f),
-        TRANSITION => transits(t, at, places, f, transition_used(flag(t, f))),
-        ACTION => acts(t, at, places, run, f),
-        STEP => steps_to(t, at, places, f, step_used(flag(t, f))),
-        EVENT_CONNECTION => connects_events(t, at, f),
-        DATA_CONNECTION => connects_data(t, at, places, f),
-        _ => of_element(t, at, f),
+    let frames = &walk.frames;
+    let g = flag(frames.kinds.table, f);
+    match kind {
+        Kind::Element => initial_state(frames, f),
+        Kind::Association => associates(frames, f),
+        Kind::ChartState => of_basic(frames, f),
+        Kind::Transition => transits(frames, f, used(Kind::Transition, g)),
+        Kind::Action => walk.acts(f),
+        Kind::Step => steps_to(frames, f, used(Kind::Step, g)),
+        Kind::EventConnection => connects_events(frames, f),
+        Kind::DataConnection => connects_data(frames, f),
+        Kind::Zero | Kind::EventInput | Kind::EventOutput | Kind::Variable => of_element(frames, f),
     }
 }
 
 // How many frames, from the first on and of the first n, refer rightly. These n have their form.
-pub fn references_end(t: &[u8], at: &[usize; 13], places: &[u16], n: usize) -> usize
-    requires { Starts t.now at.now × (n ≤ frames_of t.now) × (all_to (form_ok t.now) n ≡ true) × Located t.now places.now }
-    ensures { result ≡ held_to (refers_ok t.now) n }
+pub fn references_end(frames: &Frames, n: usize) -> usize
+    requires { (n ≤ frames_of frames.now.kinds.table.now) × (all_to (form_ok frames.now.kinds.table.now) n ≡ true) }
+    ensures { result ≡ held_to (refers_ok frames.now.kinds.table.now) n }
 {
-    let mut run = Run {
-        element: 0,
-        first: 0,
-        end: 0,
-    };
-    let mut f = 0;
-    while f < n {
-        let k = kind(t, f);
-        if !refers_ok(t, at, places, run, f, k) {
+    let mut run = Run::default();
+    for f in 0..n {
+        let kind = Kind::of(kind(frames.kinds.table, f)).unwrap();
+        let walk = Walk {
+            frames: *frames,
+            run,
+        };
+        if !refers_ok(&walk, f, kind) {
             return f;
         }
-        if k == ACTION {
-            run = known_after(t, at, places, run, f);
+        if kind == Kind::Action {
+            run = walk.known_after(f);
         }
-        f += 1;
     }
     n
 }

@@ -6,10 +6,11 @@ ghost use Rattle.rules_tables.specs.Frame.{frames_of};
 ghost use Rattle.rules_tables.specs.View.{stretch as «stretch_of», IsPart, kind_span, step_span};
 ghost use Rattle.table_views.specs.Within.{Within};
 
-use rules_tables::{Judged, Span};
+use rules_tables::Span;
 use table_frames::frame::field;
-use table_frames::kind::{DATA_CONNECTION, ELEMENT};
-use table_frames::place::{count, starts};
+use table_frames::kind::Kind;
+use table_frames::kinds::Kinds;
+use table_frames::place::starts;
 
 const NOTHING: Span = Span { first: 0, count: 0 };
 
@@ -29,17 +30,21 @@ pub fn kind_span(t: &[u8], k: usize) -> Span
     ensures { Within t.now (kind_span t.now k) result }
 {
     let judged = table_check::check(t);
-    let Judged::Sound(_) = judged else {
+    let Ok(_) = judged else {
         return NOTHING;
     };
-    if k < ELEMENT {
+    let Some(kind) = Kind::of(k) else {
+        return NOTHING;
+    };
+    if kind == Kind::Zero {
         return NOTHING;
     }
-    if DATA_CONNECTION < k {
-        return NOTHING;
-    }
-    let at = starts(t);
-    stretch(at[k], count(t, &at, k))
+    let starts = starts(t);
+    let kinds = Kinds {
+        table: t,
+        starts: &starts,
+    };
+    stretch(starts[k], kinds.count(kind))
 }
 
 // Where the steps of an action stand.
@@ -47,7 +52,7 @@ pub fn step_span(t: &[u8], id: usize) -> Span
     ensures { Within t.now (step_span t.now id) result }
 {
     let judged = table_check::check(t);
-    let Judged::Sound(shape) = judged else {
+    let Ok(shape) = judged else {
         return NOTHING;
     };
     if shape.actions_end - shape.transitions_end <= id {

@@ -5,5 +5,5 @@
 use session_watch::{Wish, watch_session};
 
 fn main(rt: HostRuntime) {
-    watch_session(&rt, Wish::Trace, 1);
+    watch_session(&rt, Wish::Trace);
 }

@@ -9,8 +9,7 @@ ghost use Rattle.rules_calls.specs.Compact.{Compact};
 ghost use Rattle.rules_calls.specs.Exports.{packed, LoadTold, AdvanceTold, ArrivalTold, RunTold, Lies, need_or0};
 ghost use Rattle.rules_traces.specs.Public.{TracedTold, ShowTold};
 
-use rules_calls::Answer;
-use rules_tables::Judged;
+use rules_calls::{Answer, Answered};
 use store_words::shape::need;
 use table_views::{kind_span, step_span};
 
@@ -36,7 +35,7 @@ pub extern "C" fn xal_need(table: &[u8]) -> usize
     ensures { result ≡ need_or0 table.now }
 {
     let judged = table_check::check(table);
-    let Judged::Sound(s) = judged else {
+    let Ok(s) = judged else {
         return 0;
     };
     need(s)

@@ -1,29 +1,20 @@
 -- `advance` meets its contract: the refusals in their order, or the advanced store.
+use Rattle.std.proofs.lemmas.Result.{err_from_is_err_and}
 use Rattle.calls.proofs.Tracing.{ready_lawful, ready_owners}
-use Rattle.rules_calls.proofs.laws.Checked.{ready}
-use Rattle.calls.proofs.Turns.{ready_kept, advance_faulty, advance_unready, advance_refused, advance_done}
+use Rattle.calls.proofs.Turns.{ready_kept, advance_stops, advance_refused, advance_done}
 use Rattle.calls.proofs.advance.Goals as goal
 
-pub returns-in_default : goal.returns-in_default
-returns-in_default c = advance_faulty _ _ _ c.check-judged.ensures.0 c.in_default.is c.refused.ensures
+pub returns-in_err-net : goal.returns-in_err-net
+returns-in_err-net c = let p = err_from_is_err_and c.from_residual.result c.from_residual.ensures.1 in rw (p.1, p.2) (advance_stops _ _ _ c.in_err-net.ensures)
 
-pub store_refusal-q-requires : goal.store_refusal-q-requires
-store_refusal-q-requires c = ready _ c.check-judged.ensures.0 c.in-Sound.is
+pub time_refusal-requires : goal.time_refusal-requires
+time_refusal-requires c = ready_kept _ _ c.in_ok-net.ensures.0 c.in_ok-net.ensures.1
 
-pub returns-then-q-ne0 : goal.returns-then-q-ne0
-returns-then-q-ne0 c = advance_unready _ _ _ c.check-judged.ensures.0 c.in-Sound.is c.store_refusal-q.ensures c.if-q-ne0.true
-
-pub time_refusal-p-requires : goal.time_refusal-p-requires
-time_refusal-p-requires c = ready_kept _ _ _ c.store_refusal-q.ensures c.if-q-ne0.false
-
-pub returns-then-p-ne0 : goal.returns-then-p-ne0
-returns-then-p-ne0 c = advance_refused _ _ _ c.check-judged.ensures.0 c.in-Sound.is c.store_refusal-q.ensures c.if-q-ne0.false c.time_refusal-p.ensures c.if-p-ne0.true
+pub returns-in_err-time_refusal : goal.returns-in_err-time_refusal
+returns-in_err-time_refusal c = let p = err_from_is_err_and c.from_residual-in_err-time_refusal.result c.from_residual-in_err-time_refusal.ensures.1 in rw (p.1, p.2) (advance_refused _ _ _ c.in_ok-net.ensures.0 c.in_ok-net.ensures.1 c.in_err-time_refusal.ensures)
 
 pub advance_to-requires : goal.advance_to-requires
-advance_to-requires c =
-    let e = c.check-judged.ensures.0 in
-    let w = c.in-Sound.is in
-    (ready _ e w, ready_lawful _ e w, ready_owners _ e w, ready_kept _ _ _ c.store_refusal-q.ensures c.if-q-ne0.false)
+advance_to-requires c = let k = c.in_ok-net.ensures.0 in (ready_lawful _ k, ready_owners _ k, ready_kept _ _ k c.in_ok-net.ensures.1)
 
 pub returns : goal.returns
-returns c = advance_done _ _ _ c.check-judged.ensures.0 c.in-Sound.is c.store_refusal-q.ensures c.if-q-ne0.false c.time_refusal-p.ensures _ c.if-p-ne0.false c.advance_to.ensures
+returns c = advance_done _ _ _ c.in_ok-net.ensures.0 c.in_ok-net.ensures.1 c.in_ok-time_refusal.ensures c.advance_to.ensures

@@ -1,20 +1,13 @@
--- `load` meets its contract: the table's refusal, 5, or the loaded store.
-use Rattle.store_words.proofs.laws.Small.{small}
-use Rattle.rules_calls.proofs.laws.Checked.{ready}
-use Rattle.calls.proofs.Turns.{load_faulty, load_short, load_done}
+-- `load` meets its contract: a refusal, or the loaded store.
+use Rattle.std.proofs.lemmas.Result.{err_from_is_err_and}
+use Rattle.calls.proofs.Turns.{load_stops, load_long, load_done}
 use Rattle.calls.proofs.load.Goals as goal
 
-pub returns-in_default : goal.returns-in_default
-returns-in_default c = load_faulty _ _ c.check-judged.ensures.0 c.in_default.is c.refused.ensures
-
-pub need-requires : goal.need-requires
-need-requires c = small _ _ (ready _ c.check-judged.ensures.0 c.in-Sound.is)
-
-pub returns-then-store-need : goal.returns-then-store-need
-returns-then-store-need c = load_short _ _ c.check-judged.ensures.0 c.in-Sound.is c.need.ensures c.if-store-need.true
+pub returns-in_err-net : goal.returns-in_err-net
+returns-in_err-net c = let p = err_from_is_err_and c.from_residual.result c.from_residual.ensures.1 in rw (p.1, p.2) (load_stops _ _ c.in_err-net.ensures)
 
 pub load-requires : goal.load-requires
-load-requires c = (ready _ c.check-judged.ensures.0 c.in-Sound.is, rw c.need.ensures at c.if-store-need.false)
+load-requires c = load_long _ _ c.in_ok-net.ensures.0 c.in_ok-net.ensures.1
 
 pub returns : goal.returns
-returns c = load_done _ _ c.check-judged.ensures.0 c.in-Sound.is c.need.ensures _ c.if-store-need.false c.load.ensures
+returns c = load_done _ _ c.in_ok-net.ensures.0 c.in_ok-net.ensures.1 c.load.ensures

@@ -1,20 +1,13 @@
 -- `store_refusal` meets its contract: 5 before 6.
-use Rattle.rules_calls.specs.Refusals.{store_refusal}
-use Rattle.store_words.proofs.laws.Small.{small}
-use borrow.Author.Tests.{lt-ltb, le-ltb}
+use Rattle.std.proofs.lemmas.Result.{err_from_is_err_and}
+use Rattle.calls.proofs.Turns.{short_stops, long_then}
 use Rattle.calls.proofs.store_refusal.Goals as goal
 
-pub need-requires : goal.need-requires
-need-requires c = small _ _ c.requires
-
-pub returns-then-store-need : goal.returns-then-store-need
-unfolding store_refusal
-returns-then-store-need c = rw (← c.need.ensures, lt-ltb _ _ c.if-store-need.true)
+pub returns-in_err-length_refusal : goal.returns-in_err-length_refusal
+returns-in_err-length_refusal c = let p = err_from_is_err_and c.from_residual.result c.from_residual.ensures.1 in rw (p.1, p.2) (short_stops _ _ _ c.in_err-length_refusal.ensures)
 
 pub returns-then-well_formed : goal.returns-then-well_formed
-unfolding store_refusal
-returns-then-well_formed c = rw (← c.need.ensures, le-ltb _ _ c.if-store-need.false, ← c.well_formed-2.ensures, c.if-well_formed.true)
+returns-then-well_formed c = long_then _ _ _ c.in_ok-length_refusal.ensures c.if-well_formed.ensures
 
 pub returns-else-well_formed : goal.returns-else-well_formed
-unfolding store_refusal
-returns-else-well_formed c = rw (← c.need.ensures, le-ltb _ _ c.if-store-need.false, ← c.well_formed-2.ensures, c.if-well_formed.false)
+returns-else-well_formed c = rw (long_then _ _ _ c.in_ok-length_refusal.ensures c.if-well_formed.ensures) c.refuse.ensures

@@ -11,9 +11,9 @@ use Rattle.rules_store.specs.Formed.{Formed}
 use Rattle.rules_moves.specs.declared.Next.{Next}
 use Rattle.rules_moves.specs.Next.{next_by, next_of}
 use Rattle.rules_calls.specs.Run.{after}
-use Rattle.rules_calls.specs.declared.Answer.{Answer}
 use Rattle.rules_calls.specs.Refusals.{store_refusal}
 use Rattle.rules_calls.specs.Public.{RunCall}
+use Rattle.rules_calls.specs.Answer.{Answer}
 use Rattle.rules_traces.specs.declared.Traced.{Traced}
 use Rattle.rules_traces.specs.Entry.{entry_frames}
 use Rattle.rules_traces.specs.Trace.{entries_of}

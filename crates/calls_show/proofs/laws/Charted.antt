@@ -1,11 +1,9 @@
 -- An accepted table is charted with its shape.
-use Rattle.std.specs.Prelude.{◌≡◌}
+use Rattle.std.specs.Prelude.{◌≡◌, Ok}
 use Rattle.std.proofs.Common.{arith}
 use Rattle.rules_tables.specs.Frame.{Table}
 use Rattle.rules_tables.specs.declared.Shape.{Shape}
-use Rattle.rules_tables.specs.declared.Judged.{Judged}
-use Rattle.rules_tables.specs.declared.Judged.TheVariants.{Sound}
-use Rattle.rules_tables.specs.Judge.{judged, shape_of}
+use Rattle.rules_tables.specs.Judge.{judged, shape_of, Judged}
 use Rattle.rules_tables.specs.Ids.{states, transitions}
 use Rattle.rules_tables.specs.Accepted.{Accepted}
 use Rattle.rules_tables.proofs.laws.Accepted.{accepted_means}
@@ -27,5 +25,5 @@ module _ (T : Table) where
       }
 
   -- once the check has told
-  pub ready_charted : {j : Judged} {S : Shape} → j ≡ judged T → j ≡ Sound S → Charted T S
+  pub ready_charted : {j : Judged} {S : Shape} → j ≡ judged T → j ≡ Ok S → Charted T S
   ready_charted told sound = rw (shape T told sound) (charted (accepted_means T (verdict T told sound)))

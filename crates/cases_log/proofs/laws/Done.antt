@@ -1,5 +1,5 @@
 -- A call that nothing refuses, as a step of a sequence: the store is what the rule says, and the log too.
-use Rattle.std.specs.Prelude.{◌≡◌, refl, List, ℕ, eqb, length}
+use Rattle.std.specs.Prelude.{◌≡◌, refl, List, ℕ, eqb, length, Ok}
 use Rattle.std.proofs.Common.{subst, eq-eqb}
 use Rattle.rules_walks.proofs.laws.Choose.{choose_true}
 use Rattle.rules_tables.specs.Judge.{Verdict, accepted, judge, shape_of}
@@ -7,17 +7,17 @@ use Rattle.rules_store.specs.Word.{now_of}
 use Rattle.rules_store.specs.Load.{loaded}
 use Rattle.rules_calls.specs.Run.{after}
 use Rattle.rules_calls.specs.Calls.{advanced, arrived}
-use Rattle.rules_calls.specs.declared.Answer.TheVariants.{Done}
 use Rattle.rules_calls.specs.Answer.{answer_by, kept_by}
 use Rattle.rules_calls.specs.Refusals.{load_refusal, store_refusal, advance_refusal, arrival_refusal}
 use Rattle.rules_calls.specs.Public.{run_moves, advance_answer, arrival_answer, run_answered, run_output}
 use Rattle.rules_calls.proofs.laws.Public.{load_call, advance_call, arrival_call, run_call}
+use Rattle.rules_calls.specs.declared.Outcome.TheVariants.{Done}
 use Rattle.rules_log.specs.Log.{Log, empty, run_log, advance_log, arrival_log}
 use Rattle.rules_log.specs.Sequence.{unless, Since, loads, advances, arrives, runs}
 
 -- nothing refuses
 module _ (v : Verdict) (q : ℕ) (e : v ≡ accepted) (z : q ≡ 0) where
-  answered : Done ≡ answer_by v q Done
+  answered : Ok Done ≡ answer_by v q (Ok Done)
   answered = rw (e, z)
 
   left : (s x : List ℕ) → x ≡ kept_by v q s x

@@ -17,8 +17,7 @@ use Rattle.rules_store.specs.Word.{now_of, running_of, waiting, birth_of, value,
 use Rattle.rules_tables.specs.Lawful.{source, destination}
 use Rattle.rules_tables.proofs.laws.Lawful.{lawful}
 use Rattle.rules_calls.specs.Run.{bytes}
-use Rattle.rules_calls.specs.declared.Answer.{Answer}
-use Rattle.rules_calls.specs.Answer.{kept_by}
+use Rattle.rules_calls.specs.Answer.{kept_by, Answer}
 use Rattle.rules_calls.specs.Public.{run_moves, count_by, RunCall}
 use Rattle.rules_calls.proofs.laws.Public.{run_output_lem}
 use Rattle.rules_calls.proofs.laws.Run.{bytes_fit}

@@ -1,5 +1,5 @@
 -- What every public call keeps, on every table and store.
-use Rattle.std.specs.Prelude.{◌≡◌, List, [], ◌∷◌, Bool, ◌⊎◌, ℕ, suc, ◌+◌, ◌≤◌, ◌<◌, length, get_or, set}
+use Rattle.std.specs.Prelude.{◌≡◌, List, [], ◌∷◌, Bool, ◌⊎◌, ℕ, suc, ◌+◌, ◌≤◌, ◌<◌, length, get_or, set, Ok, Err}
 use Rattle.std.proofs.Math.Path.{refl}
 use Rattle.std.proofs.Common.{sym, ap, ◌∙◌, inl, inr, arith, get_or-set_other, eqb-true}
 use Rattle.std.proofs.Math.Bool.{true, false}
@@ -10,7 +10,7 @@ use Rattle.rules_walks.specs.Pick.{pick, both}
 use Rattle.rules_walks.specs.Choose.{choose}
 use Rattle.rules_walks.proofs.laws.Held.{held}
 use Rattle.rules_tables.specs.declared.Shape.{Shape}
-use Rattle.rules_tables.specs.Judge.{Verdict, accepted, refused, judge, shape_of}
+use Rattle.rules_tables.specs.Judge.{Verdict, accepted, refused, judge, shape_of, refusal}
 use Rattle.rules_store.specs.Layout.{need}
 use Rattle.rules_store.specs.Kept.{Kept}
 use Rattle.rules_store.proofs.laws.Kept.{kept_all}
@@ -19,12 +19,11 @@ use Rattle.rules_store.specs.WellFormed.{well_formed}
 use Rattle.rules_store.specs.Load.{loaded}
 use Rattle.rules_store.proofs.laws.Load.{loaded_kept}
 use Rattle.rules_calls.specs.Run.{bytes, another, room_for, continues, made, stop_after}
-use Rattle.rules_calls.specs.declared.Answer.{Answer}
-use Rattle.rules_calls.specs.declared.Answer.TheVariants.{Refused, Done, Ran}
-use Rattle.rules_calls.specs.Answer.{moves_of, bytes_of, stop_of, answer_by, kept_by}
+use Rattle.rules_calls.specs.Answer.{moves_of, bytes_of, stop_of, answer_by, kept_by, Answer}
 use Rattle.rules_calls.specs.Refusals.{load_refusal, store_refusal, time_refusal, advance_refusal, event_refusal, arrival_refusal}
 use Rattle.rules_calls.specs.Public.{run_moves, LoadCall, AdvanceCall, ArrivalCall, RunCall, run_answer}
 use Rattle.rules_calls.proofs.laws.Public.{run_store_lem, run_output_lem as «output_is»}
+use Rattle.rules_calls.specs.declared.Outcome.TheVariants.{Done, Ran}
 use Rattle.rules_store.proofs.laws.WellFormed.{formed_tests}
 use Rattle.rules_log.specs.Log.{empty}
 use Rattle.rules_log.specs.Origin.{as_found}
@@ -38,32 +37,32 @@ use Rattle.laws_calls.proofs.laws.Lawfully.{lawfully}
 use Rattle.laws_calls.specs.Kept.{OutputKept}
 
 -- ---- "A refusal returns its number ..; nothing is written."
-refused_keeps : (v : Verdict) (q p f : ℕ) (d : Answer) (s x : List ℕ) → ((a b : ℕ) → d ≡ Refused a b → ⊥) → Refused p f ≡ answer_by v q d → kept_by v q s x ≡ s
+refused_keeps : (v : Verdict) (q p f : ℕ) (d : Answer) (s x : List ℕ) → ((a b : ℕ) → d ≡ Err (refusal a b) → ⊥) → Err (refusal p f) ≡ answer_by v q d → kept_by v q s x ≡ s
 unfolding choose
 refused_keeps (refused n g) q p f d s x h e = refl
 refused_keeps accepted q p f d s x h e = by (eqb q 0) e
   where
-    by : (b : Bool) → Refused p f ≡ pick b d (Refused q 0) → choose b x s ≡ s
+    by : (b : Bool) → Err (refusal p f) ≡ pick b d (Err (refusal q 0)) → choose b x s ≡ s
     by true z = absurd (h p f (sym z))
     by false z = refl
 
-done_other : (a b : ℕ) → Done ≡ Refused a b → ⊥
+done_other : (a b : ℕ) → Ok Done ≡ Err (refusal a b) → ⊥
 done_other a b e = let y : ◌≡◌ {A = ℕ} 0 1 = cc in omega arith
 
-ran_other : (m n k u a b : ℕ) → Ran m n k u ≡ Refused a b → ⊥
+ran_other : (m n k u a b : ℕ) → Ok (Ran m n k u) ≡ Err (refusal a b) → ⊥
 ran_other m n k u a b e = let y : ◌≡◌ {A = ℕ} 0 1 = cc in omega arith
 
 module _ (T s s' : List ℕ) (p f : ℕ) where
-  pub load_refused : LoadCall T s (Refused p f) s' → s' ≡ s
-  load_refused c = c.store ∙ refused_keeps (judge T) (load_refusal (shape_of T) s) p f Done s (loaded T (shape_of T) s) done_other c.answer
+  pub load_refused : LoadCall T s (Err (refusal p f)) s' → s' ≡ s
+  load_refused c = c.store ∙ refused_keeps (judge T) (load_refusal (shape_of T) s) p f (Ok Done) s (loaded T (shape_of T) s) done_other c.answer
 
-  pub advance_refused : (t : ℕ) → AdvanceCall T s t (Refused p f) s' → s' ≡ s
-  advance_refused t c = c.store ∙ refused_keeps (judge T) (advance_refusal T (shape_of T) s t) p f Done s _ done_other c.answer
+  pub advance_refused : (t : ℕ) → AdvanceCall T s t (Err (refusal p f)) s' → s' ≡ s
+  advance_refused t c = c.store ∙ refused_keeps (judge T) (advance_refusal T (shape_of T) s t) p f (Ok Done) s _ done_other c.answer
 
-  pub arrival_refused : (o birth : ℕ) (values : List ℕ) → ArrivalCall T s o birth values (Refused p f) s' → s' ≡ s
-  arrival_refused o birth values c = c.store ∙ refused_keeps (judge T) (arrival_refusal T (shape_of T) s o birth values) p f Done s _ done_other c.answer
+  pub arrival_refused : (o birth : ℕ) (values : List ℕ) → ArrivalCall T s o birth values (Err (refusal p f)) s' → s' ≡ s
+  arrival_refused o birth values c = c.store ∙ refused_keeps (judge T) (arrival_refusal T (shape_of T) s o birth values) p f (Ok Done) s _ done_other c.answer
 
-  pub run_refused : (budget : ℕ) (out out' : List ℕ) → RunCall T s budget out (Refused p f) s' out' → (s' ≡ s) × (out' ≡ out)
+  pub run_refused : (budget : ℕ) (out out' : List ℕ) → RunCall T s budget out (Err (refusal p f)) s' out' → (s' ≡ s) × (out' ≡ out)
   run_refused budget out out' c =
       let m = run_moves T s budget (length out) in
       let d = run_answer T s budget (length out) m in (
@@ -128,7 +127,7 @@ unfolding choose
 output_or_not (refused p f) q d r out b l e = record { long = refl; past = λ k h. refl }
 output_or_not accepted q d r out b l e = by (eqb q 0) e
   where
-    by : (c : Bool) → r ≡ pick c d (Refused q 0) → OutputKept (bytes_of r) out (choose c (sets out 0 b) out)
+    by : (c : Bool) → r ≡ pick c d (Err (refusal q 0)) → OutputKept (bytes_of r) out (choose c (sets out 0 b) out)
     by true z =
         let n : bytes_of r ≡ length b = ap bytes_of z ∙ sym l in
         record { long = length-sets out 0 b; past = λ k h. sets_past out 0 b k (omega arith) }
@@ -141,30 +140,30 @@ run_output_lem T s budget out s' out' r c =
 
 -- ---- well-formedness: load gives it, and every call that is not refused keeps it
 module _ (T s s' : List ℕ) where
-  pub load_formed : LoadCall T s Done s' → well_formed T (shape_of T) s' ≡ true
+  pub load_formed : LoadCall T s (Ok Done) s' → well_formed T (shape_of T) s' ≡ true
   load_formed c = formed_tests T (shape_of T) s' (lawfully T s' empty (loads s s' c)).holds.formed
 
-  pub advance_formed : (t : ℕ) → AdvanceCall T s t Done s' → well_formed T (shape_of T) s' ≡ true
+  pub advance_formed : (t : ℕ) → AdvanceCall T s t (Ok Done) s' → well_formed T (shape_of T) s' ≡ true
   unfolding advance_refusal
   advance_formed t c =
       let S = shape_of T in
       let w = done_means (judge T) (advance_refusal T S s t) c.answer in
       let z = or_else_none (store_refusal T S s) (time_refusal S s t) w.call in
-      formed_tests T S s' (advance_step T w.table (as_found S s) empty s (found_holds T S s (store_formed T S s z.0)) s' t Done c).holds.formed
+      formed_tests T S s' (advance_step T w.table (as_found S s) empty s (found_holds T S s (store_formed T S s z.0)) s' t (Ok Done) c).holds.formed
 
-  pub arrival_formed : (o birth : ℕ) (values : List ℕ) → ArrivalCall T s o birth values Done s' → well_formed T (shape_of T) s' ≡ true
+  pub arrival_formed : (o birth : ℕ) (values : List ℕ) → ArrivalCall T s o birth values (Ok Done) s' → well_formed T (shape_of T) s' ≡ true
   unfolding arrival_refusal
   arrival_formed o birth values c =
       let S = shape_of T in
       let w = done_means (judge T) (arrival_refusal T S s o birth values) c.answer in
       let z = or_else_none (store_refusal T S s) (event_refusal T S s o birth values) w.call in
-      formed_tests T S s' (arrival_step T w.table (as_found S s) empty s (found_holds T S s (store_formed T S s z.0)) s' o birth values Done c).holds.formed
+      formed_tests T S s' (arrival_step T w.table (as_found S s) empty s (found_holds T S s (store_formed T S s z.0)) s' o birth values (Ok Done) c).holds.formed
 
-  pub run_formed : (budget : ℕ) (out out' : List ℕ) (m b n u : ℕ) → RunCall T s budget out (Ran m b n u) s' out' → well_formed T (shape_of T) s' ≡ true
+  pub run_formed : (budget : ℕ) (out out' : List ℕ) (m b n u : ℕ) → RunCall T s budget out (Ok (Ran m b n u)) s' out' → well_formed T (shape_of T) s' ≡ true
   run_formed budget out out' m b n u c =
       let S = shape_of T in
       let w = ran_means (judge T) (store_refusal T S s) m b n u _ c.answer in
-      formed_tests T S s' (run_step T w.table (as_found S s) empty s (found_holds T S s (store_formed T S s w.call)) s' out out' budget (Ran m b n u) c).holds.formed
+      formed_tests T S s' (run_step T w.table (as_found S s) empty s (found_holds T S s (store_formed T S s w.call)) s' out out' budget (Ok (Ran m b n u)) c).holds.formed
 
 -- ---- progress: a run that has budget left over stops for want of a move (1) or of room (3)
 stop_why : (a b : Bool) → both a b ≡ false → (◌≡◌ {A = ℕ} (pick a (pick b 2 3) 1) 1) ⊎ (◌≡◌ {A = ℕ} (pick a (pick b 2 3) 1) 3)
@@ -172,7 +171,7 @@ stop_why true true e = absurd (let z : ◌≡◌ {A = ℕ} 0 1 = ap (λ (x : Boo
 stop_why true false e = inr refl
 stop_why false b e = inl refl
 
-pub progress : (T s : List ℕ) (budget : ℕ) (out s' out' : List ℕ) (m b n u : ℕ) → RunCall T s budget out (Ran m b n u) s' out' → m < budget → (n ≡ 1) ⊎ (n ≡ 3)
+pub progress : (T s : List ℕ) (budget : ℕ) (out s' out' : List ℕ) (m b n u : ℕ) → RunCall T s budget out (Ok (Ran m b n u)) s' out' → m < budget → (n ≡ 1) ⊎ (n ≡ 3)
 unfolding made continues stop_after
 progress T s budget out s' out' m b n u c l =
     let S = shape_of T in
@@ -180,7 +179,7 @@ progress T s budget out s' out' m b n u c l =
     let room = length out in
     let k = run_moves T s budget room in
     let w = ran_means (judge T) (store_refusal T S s) m b n u (run_answer T s budget room k) c.answer in
-    let e : Ran m b n u ≡ run_answer T s budget room k = w.is in
+    let e : Ok (Ran m b n u) ≡ run_answer T s budget room k = w.is in
     let em : m ≡ k = ap moves_of e in
     let en : n ≡ stop_after T S t room s k = ap stop_of e in
     let h = (held (continues T S t room s) budget).stopped (omega arith) in

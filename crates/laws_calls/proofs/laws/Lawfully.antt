@@ -1,5 +1,5 @@
 -- The laws hold after any sequence of calls since an accepted load: they hold after the load, and each call keeps them.
-use Rattle.std.specs.Prelude.{◌≡◌, List, ℕ, length}
+use Rattle.std.specs.Prelude.{◌≡◌, List, ℕ, length, Ok}
 use Rattle.std.proofs.Common.{◌∙◌, le-ltb}
 use Rattle.rules_walks.specs.Choose.{choose}
 use Rattle.rules_tables.specs.Judge.{judge, shape_of}
@@ -7,10 +7,10 @@ use Rattle.rules_tables.proofs.laws.Accepted.{accepted_means}
 use Rattle.rules_store.specs.Layout.{need}
 use Rattle.rules_tables.proofs.laws.Lawful.{lawful}
 use Rattle.rules_store.specs.Load.{loaded}
-use Rattle.rules_calls.specs.declared.Answer.TheVariants.{Done}
 use Rattle.rules_calls.specs.Answer.{kept_by}
 use Rattle.rules_calls.specs.Refusals.{load_refusal, store_refusal}
 use Rattle.rules_calls.specs.Public.{LoadCall}
+use Rattle.rules_calls.specs.declared.Outcome.TheVariants.{Done}
 use Rattle.rules_store.proofs.laws.WellFormed.{formed_tests}
 use Rattle.rules_log.specs.Log.{Log, empty}
 use Rattle.rules_log.specs.Origin.{fresh}
@@ -20,7 +20,7 @@ use Rattle.laws_calls.proofs.laws.Refusals.{done_means, load_none}
 use Rattle.laws_calls.proofs.laws.Steps.{advance_step, arrival_step, run_step}
 use Rattle.laws_calls.specs.Lawfully.{Lawfully}
 
-load_lawfully : (T s s' : List ℕ) → LoadCall T s Done s' → Lawfully T s' empty
+load_lawfully : (T s s' : List ℕ) → LoadCall T s (Ok Done) s' → Lawfully T s' empty
 unfolding choose
 load_lawfully T s s' c =
     let S = shape_of T in

@@ -1,35 +1,34 @@
 -- What it means that nothing refuses a call.
-use Rattle.std.specs.Prelude.{◌≡◌, refl, List, Bool, true, false, ◌⊎◌, ℕ, ◌≤◌, eqb, ltb, length}
+use Rattle.std.specs.Prelude.{◌≡◌, refl, List, Bool, true, false, ◌⊎◌, ℕ, ◌≤◌, eqb, ltb, length, Ok, Err}
 use Rattle.std.proofs.Common.{inl, inr, arith, eqb-true, ltb-false}
 use Rattle.std.proofs.lemmas.Bool.{eqb-false}
 use Rattle.rules_walks.specs.Pick.{pick}
 use Rattle.rules_tables.specs.declared.Shape.{Shape}
-use Rattle.rules_tables.specs.Judge.{Verdict, accepted, refused}
+use Rattle.rules_tables.specs.Judge.{Verdict, accepted, refused, refusal}
 use Rattle.rules_store.specs.Layout.{need}
 use Rattle.rules_store.specs.Word.{now_of}
 use Rattle.rules_store.specs.WellFormed.{well_formed}
 use Rattle.rules_calls.specs.Calls.{wrong_time, beyond_due, of_source, value_count}
-use Rattle.rules_calls.specs.declared.Answer.{Answer}
-use Rattle.rules_calls.specs.declared.Answer.TheVariants.{Refused, Done, Ran}
-use Rattle.rules_calls.specs.Answer.{answer_by}
+use Rattle.rules_calls.specs.Answer.{answer_by, Answer}
 use Rattle.rules_calls.specs.Public.{count_by}
 use Rattle.rules_calls.specs.Refusals.{load_refusal, store_refusal, or_else, time_refusal, event_refusal}
+use Rattle.rules_calls.specs.declared.Outcome.TheVariants.{Done, Ran}
 use Rattle.rules_store.specs.Formed.{Formed}
 use Rattle.rules_store.proofs.laws.WellFormed.{formed_means}
 use Rattle.laws_calls.specs.Refusals.{Accepting, Running}
 
-pub done_means : (v : Verdict) (q : ℕ) → Done ≡ answer_by v q Done → Accepting v q
+pub done_means : (v : Verdict) (q : ℕ) → Ok Done ≡ answer_by v q (Ok Done) → Accepting v q
 done_means accepted q e = by (eqb q 0) refl e
   where
-    by : (b : Bool) → eqb q 0 ≡ b → Done ≡ pick b Done (Refused q 0) → Accepting accepted q
+    by : (b : Bool) → eqb q 0 ≡ b → Ok Done ≡ pick b (Ok Done) (Err (refusal q 0)) → Accepting accepted q
     by true z d = record { table = refl; call = eqb-true q 0 z }
     by false z d = absurd (let y : ◌≡◌ {A = ℕ} 0 1 = cc in omega arith)
 done_means (refused p f) q e = absurd (let y : ◌≡◌ {A = ℕ} 0 1 = cc in omega arith)
 
-pub ran_means : (v : Verdict) (q m b n u : ℕ) (d : Answer) → Ran m b n u ≡ answer_by v q d → Running v q (Ran m b n u) d
+pub ran_means : (v : Verdict) (q m b n u : ℕ) (d : Answer) → Ok (Ran m b n u) ≡ answer_by v q d → Running v q (Ok (Ran m b n u)) d
 ran_means accepted q m b n u d e = by (eqb q 0) refl e
   where
-    by : (c : Bool) → eqb q 0 ≡ c → Ran m b n u ≡ pick c d (Refused q 0) → Running accepted q (Ran m b n u) d
+    by : (c : Bool) → eqb q 0 ≡ c → Ok (Ran m b n u) ≡ pick c d (Err (refusal q 0)) → Running accepted q (Ok (Ran m b n u)) d
     by true z x = record { table = refl; call = eqb-true q 0 z; is = x }
     by false z x = absurd (let y : ◌≡◌ {A = ℕ} 0 1 = cc in omega arith)
 ran_means (refused p f) q m b n u d e = absurd (let y : ◌≡◌ {A = ℕ} 0 1 = cc in omega arith)

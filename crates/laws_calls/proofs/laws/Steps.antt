@@ -13,8 +13,7 @@ use Rattle.rules_store.proofs.laws.Writer.{leaves_now}
 use Rattle.rules_store.proofs.laws.Own.{now_put}
 use Rattle.rules_calls.specs.Run.{after}
 use Rattle.rules_calls.specs.Calls.{advanced, arrived}
-use Rattle.rules_calls.specs.declared.Answer.{Answer}
-use Rattle.rules_calls.specs.Answer.{kept_by}
+use Rattle.rules_calls.specs.Answer.{kept_by, Answer}
 use Rattle.rules_calls.specs.Refusals.{store_refusal, time_refusal, advance_refusal, event_refusal, arrival_refusal}
 use Rattle.rules_calls.specs.Public.{run_moves, AdvanceCall, ArrivalCall, RunCall}
 use Rattle.rules_calls.proofs.laws.Public.{run_store_lem}

@@ -1,6 +1,6 @@
 -- "Word 11 counts untrue steps since load and stops at 4,294,967,295. The answer of run tells how many it made.": load zeroes the word, advance and arrival leave
 -- it, and a run adds what it tells, up to the word's end. A refused call does neither.
-use Rattle.std.specs.Prelude.{◌≡◌, refl, List, ℕ, ◌+◌, ◌≤◌, ◌<◌, min, eqb, length}
+use Rattle.std.specs.Prelude.{◌≡◌, refl, List, ℕ, ◌+◌, ◌≤◌, ◌<◌, min, eqb, length, Ok}
 use Rattle.std.proofs.Math.Path.{ap}
 use Rattle.std.proofs.Common.{◌∙◌, arith}
 use Rattle.std.proofs.Math.Logic.{⊎_elim}
@@ -13,11 +13,10 @@ use Rattle.rules_tables.proofs.laws.Lawful.{lawful}
 use Rattle.rules_store.specs.Word.{count_end, now_of, untrue}
 use Rattle.rules_calls.specs.Calls.{advanced, arrived}
 use Rattle.rules_calls.specs.Run.{after, untrue_in}
-use Rattle.rules_calls.specs.declared.Answer.{Answer}
-use Rattle.rules_calls.specs.declared.Answer.TheVariants.{Done}
-use Rattle.rules_calls.specs.Answer.{moves_of, untrue_of, kept_by}
+use Rattle.rules_calls.specs.Answer.{moves_of, untrue_of, kept_by, Answer}
 use Rattle.rules_calls.specs.Refusals.{load_refusal, store_refusal, advance_refusal, arrival_refusal}
 use Rattle.rules_calls.specs.Public.{run_moves, count_by, LoadCall, AdvanceCall, ArrivalCall, RunCall}
+use Rattle.rules_calls.specs.declared.Outcome.TheVariants.{Done}
 use Rattle.laws_kept.proofs.laws.Loading.{loaded_untrue}
 use Rattle.laws_log.proofs.laws.Untrue.{after_counts, advanced_untrue, arrived_untrue}
 use Rattle.laws_calls.proofs.laws.Refusals.{done_means, count_cases, load_none, store_formed}
@@ -26,7 +25,7 @@ module _ (T s s' : List ℕ) where
   abbrev S : Shape
   S = shape_of T
 
-  pub load_untrue : LoadCall T s Done s' → untrue s' ≡ 0
+  pub load_untrue : LoadCall T s (Ok Done) s' → untrue s' ≡ 0
   unfolding choose
   load_untrue c =
       let w = done_means (judge T) (load_refusal S s) c.answer in

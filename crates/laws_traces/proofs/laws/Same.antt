@@ -2,7 +2,7 @@
 -- than one without, and as many where its trace has room.
 use Rattle.std.proofs.Math.Path.{◌≡◌, refl, sym}
 use Rattle.std.proofs.Common.{ap, ◌∙◌, ⊎_elim, eq-or-lt_of_le, le_of_suc-le-suc, le_trans, mul-le-mul_left}
-use Rattle.std.specs.Prelude.{List, Bool, eqb, length, drop}
+use Rattle.std.specs.Prelude.{List, Bool, eqb, length, drop, Ok, Err}
 use Rattle.std.proofs.Math.Bool.{true, false}
 use Prim.Native.Nat.{ℕ, zero, suc, ◌+◌, ◌*◌, ◌≤◌}
 use native.Mathlib.Omega.{arith}
@@ -16,15 +16,14 @@ use Rattle.rules_walks.proofs.laws.Held.{held, held_is, held_both}
 use Rattle.rules_numbers.proofs.laws.Sets.{drop_sets}
 use Rattle.rules_tables.specs.Frame.{Table}
 use Rattle.rules_tables.specs.declared.Shape.{Shape}
-use Rattle.rules_tables.specs.Judge.{Verdict, accepted, refused, judge, shape_of}
+use Rattle.rules_tables.specs.Judge.{Verdict, accepted, refused, judge, shape_of, refusal}
 use Rattle.rules_store.specs.Word.{Store, now_of}
 use Rattle.rules_calls.specs.Run.{after, bytes, untrue_in, another, room_for, continues, made, stop_after}
-use Rattle.rules_calls.specs.declared.Answer.{Answer}
-use Rattle.rules_calls.specs.declared.Answer.TheVariants.{Refused, Ran}
-use Rattle.rules_calls.specs.Answer.{moves_of, answer_by}
+use Rattle.rules_calls.specs.Answer.{moves_of, answer_by, Answer}
 use Rattle.rules_calls.specs.Refusals.{store_refusal}
 use Rattle.rules_calls.specs.Public.{run_moves, run_answer, count_by, RunCall}
 use Rattle.rules_calls.proofs.laws.Run.{moves_fit}
+use Rattle.rules_calls.specs.declared.Outcome.TheVariants.{Ran}
 use Rattle.rules_traces.specs.declared.Traced.{Traced}
 use Rattle.rules_traces.specs.Entry.{entry_frames}
 use Rattle.rules_traces.specs.Trace.{entries_of}
@@ -133,7 +132,7 @@ answer_same : (v : Verdict) (q : ℕ) (x y : Answer) → (v ≡ accepted → q �
 answer_same (refused p f) q x y h = refl
 answer_same accepted q x y h = by (eqb q 0) refl
   where
-    by : (b : Bool) → eqb q 0 ≡ b → pick b x (Refused q 0) ≡ pick b y (Refused q 0)
+    by : (b : Bool) → eqb q 0 ≡ b → pick b x (Err (refusal q 0)) ≡ pick b y (Err (refusal q 0))
     by true e = h refl (eqb-true q 0 e)
     by false e = refl
 
@@ -198,7 +197,7 @@ module _ (T : Table) (s : Store) where
           (λ x y.
           let l = h x y in
           rw (made_same T S now s (length out) (length tr) budget l)
-          (ap (λ (k : ℕ). Ran n (length (bytes T S now n s)) k (untrue_in T S now n s)) (stop_same T S now s (length out) (length tr) n (has_room T S now s (length out) (length tr) n n l (omega arith)))))
+          (ap (λ (k : ℕ). Ok (Ran n (length (bytes T S now n s)) k (untrue_in T S now n s))) (stop_same T S now s (length out) (length tr) n (has_room T S now s (length out) (length tr) n n l (omega arith)))))
           ∙ sym d.answer
 
       same_all : r.answer ≡ a → (r.answer ≡ a) × (s' ≡ s'') × (out' ≡ out'')

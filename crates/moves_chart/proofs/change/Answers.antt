@@ -4,7 +4,7 @@ use Rattle.store_words.proofs.laws.Running.{chart_runs}
 use Rattle.moves_chart.proofs.change.Goals as goal
 
 pub put_entered-requires : goal.put_entered-requires
-put_entered-requires c = chart_runs _ _ _ c.put_chart_state.ensures c.requires.3
+put_entered-requires c = chart_runs _ _ _ c.put_chart_state.ensures c.requires.1
 
 pub returns : goal.returns
 unfolding change

@@ -4,7 +4,7 @@ use Rattle.moves_fire.proofs.laws.Carrying.{voice_flag}
 use Rattle.moves_fire.proofs.fire.Goals as goal
 
 pub copy_all-requires : goal.copy_all-requires
-copy_all-requires c = (c.requires.0, c.requires.1, rw c.voice_of.ensures (voice_flag _ _ _))
+copy_all-requires c = rw c.voice_of.ensures (voice_flag _ _ _)
 
 pub returns : goal.returns
 unfolding fire

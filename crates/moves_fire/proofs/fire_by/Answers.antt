@@ -4,8 +4,8 @@ use Rattle.rules_moves.specs.Fire.{fire}
 use Rattle.moves_fire.proofs.fire_by.Goals as goal
 
 pub copy_all-requires : goal.copy_all-requires
-copy_all-requires c = (c.requires.0, c.requires.1, rw c.requires.2 (voice_flag _ _ _))
+copy_all-requires c = rw c.requires (voice_flag _ _ _)
 
 pub returns : goal.returns
 unfolding fire
-returns c = rw (c.copy_all.ensures, c.connect_all.ensures, c.requires.2)
+returns c = rw (c.copy_all.ensures, c.connect_all.ensures, c.requires)

@@ -14,8 +14,7 @@ returns-then-last-h c =
 
 pub field-priority-requires : goal.field-priority-requires
 field-priority-requires c =
-    let start = c in
-    let h = start.requires.0.input_element start.args.i start.requires.1 in
+    let h = c.args.net.now.good.input_element c.args.i c.requires.0 in
     omega (arith, rw c.input_frame-f.ensures.is at c.field.ensures.0)
 
 pub returns-then-priority-h : goal.returns-then-priority-h

@@ -5,7 +5,7 @@ use Rattle.moves_least.proofs.best_from.Goals as goal
 use Rattle.moves_least.proofs.best_from.Goals.{then-beats_at, else-beats_at}
 
 pub loop-i-init : goal.loop-i-init
-loop-i-init c = (best_first _ _ _ c.requires.4 c.requires.3 c.key_of-h.ensures, omega arith)
+loop-i-init c = (best_first _ _ _ c.requires.3 c.requires.2 c.key_of-h.ensures, omega arith)
 
 pub loop-i-preserved : goal.loop-i-preserved
 loop-i-preserved c =
@@ -18,4 +18,4 @@ loop-i-preserved c =
     ]
 
 pub returns : goal.returns
-returns c = best_end _ _ _ c.next_waiting-i.ensures c.loop-i.invariant.0 c.if-n-i.true c.requires.1
+returns c = best_end _ _ _ c.next_waiting-i.ensures c.loop-i.invariant.0 c.if-n-i.true c.requires.0

@@ -7,4 +7,4 @@ pub returns-in_default : goal.returns-in_default
 returns-in_default c = chart_missing _ _ _ _ c.state_of.ensures (c.wide-event.ensures.is ∙ c.current_event.ensures) c.find_transition.ensures c.in_default.is
 
 pub returns : goal.returns
-returns c = chart_one _ _ _ _ c.state_of.ensures (c.wide-event.ensures.is ∙ c.current_event.ensures) c.find_transition.ensures _ c.in-One.is
+returns c = chart_one _ _ _ _ c.state_of.ensures (c.wide-event.ensures.is ∙ c.current_event.ensures) c.find_transition.ensures _ c.in-Some.is

@@ -1,26 +1,21 @@
+-- `pass_all` meets its contract. The invariant: the associated inputs passed are sampled, and their values passed on.
 use Rattle.moves_take.proofs.Turns.{passed_end, pass_idle, voiced}
 use Rattle.table_index.proofs.laws.Leads.{leads_start, leads_more}
+use Rattle.table_index.proofs.laws.Walk.{walk_given, walk_ended}
 use mathlib.Core.Path.{refl}
 use native.Mathlib.Omega.{arith}
 use Rattle.moves_take.proofs.pass_all.Goals as goal
 
-pub first_association-j-requires : goal.first_association-j-requires
-first_association-j-requires c = (c.requires.1, omega arith)
-
 pub loop-j-init : goal.loop-j-init
-loop-j-init c = let l = c.first_association-j.ensures in (l.within, leads_start l _ _ (λ k q x. pass_idle _ _ _ k q x) refl, refl, l.met)
+loop-j-init c = let l = c.associations_of-j-items.ensures in rw c.into_iter-j-iterator.ensures.into_iter_gives (l.goes, leads_start l.leads _ _ (λ k q x. pass_idle _ _ _ k q x) refl, refl)
 
 pub pass_on-requires : goal.pass_on-requires
-pass_on-requires c = let l = c.loop-j in (c.requires.0, omega arith, c.requires.1, voiced _ _ _ _ (l.invariant.3 (omega arith)))
-
-pub next_association-j-requires : goal.next_association-j-requires
-next_association-j-requires c = (c.requires.1, omega arith)
-
-pub loop-j-smaller : goal.loop-j-smaller
-loop-j-smaller c = let l = c.loop-j in let h = l.invariant.3 (omega arith) in let q = ((c.next_association-j.ensures.under 0 (omega arith)).next _ h).from in omega arith
+pass_on-requires c = let w = walk_given _ _ _ _ _ _ c.loop-j.invariant.0 c.in-Some.ensures.steps in rw w.stood (w.below, voiced _ _ _ _ w.met)
 
 pub loop-j-preserved : goal.loop-j-preserved
-loop-j-preserved c = let l = c.loop-j in let h = l.invariant.3 (omega arith) in let w = (c.next_association-j.ensures.under 0 (omega arith)).next _ h in (w.within, leads_more w _ _ _ _ (λ k q x. pass_idle _ _ _ k q x) refl l.invariant.1 c.pass_on.ensures, omega (arith, l.invariant.2), w.met)
+loop-j-preserved c =
+    let w = walk_given _ _ _ _ _ _ c.loop-j.invariant.0 c.in-Some.ensures.steps in
+    (w.goes, leads_more w.leads _ _ _ _ (λ k q x. pass_idle _ _ _ k q x) refl c.loop-j.invariant.1 (rw w.stood at c.pass_on.ensures), omega (arith, c.loop-j.invariant.2))
 
 pub returns : goal.returns
-returns c = passed_end _ _ _ _ _ _ c.requires.0 c.loop-j.invariant.1 (let l = c.loop-j in omega arith)
+returns c = passed_end _ _ _ _ _ _ c.args.ix.now.net.good c.loop-j.invariant.1 (walk_ended _ _ _ _ _ _ c.loop-j.invariant.0 c.in-None.ensures.steps)

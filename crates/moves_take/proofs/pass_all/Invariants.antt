@@ -2,17 +2,12 @@ use Rattle.rules_moves.specs.Take.{sample, pass}
 use mathlib.Core.List.{List}
 use Prim.Native.Nat.{ℕ}
 use Rattle.rules_tables.specs.Ids.{first_association, associations}
-use Rattle.rules_tables.specs.Owned.{belongs}
 use Rattle.rules_tables.specs.Kind.{of_input}
 use Rattle.rules_walks.specs.Walk.{up_to}
-use Prim.Native.Nat.{◌≤◌, ◌<◌, ◌-◌}
-use mathlib.Core.Bool.{true}
+use Rattle.table_index.specs.Walk.{Goes}
 use lib.ListN.{length}
 use mathlib.Core.Path.{◌≡◌}
 use Rattle.moves_take.proofs.pass_all.Given as goal
 
 abbrev pub invariant-loop-j : goal.invariant-loop-j
-invariant-loop-j l = (l.j ≤ associations l.shape) × (l.store ≡ up_to (λ (k : ℕ) (x : List ℕ). pass l.t l.shape l.i k (sample l.t l.shape l.i k x)) l.j l.initial.store) × (length l.store ≡ length l.initial.store) × (l.j < associations l.shape → belongs l.t (first_association l.shape) of_input l.i l.j ≡ true)
-
-abbrev pub decreases-loop-j : goal.decreases-loop-j
-decreases-loop-j l = associations l.shape - l.j
+invariant-loop-j l = Goes l.ix.net.table.now (first_association l.ix.net.shape) (associations l.ix.net.shape) of_input l.i l.j-iterator × (l.store ≡ up_to (λ (k : ℕ) (x : List ℕ). pass l.ix.net.table.now l.ix.net.shape l.i k (sample l.ix.net.table.now l.ix.net.shape l.i k x)) l.j-iterator.at l.initial.store) × (length l.store ≡ length l.initial.store)

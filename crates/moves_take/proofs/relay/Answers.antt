@@ -6,7 +6,7 @@ pub returns-in_default : goal.returns-in_default
 returns-in_default c = relay_none _ _ _ _ _ _ _ _ c.pass_all.ensures c.partner_output.ensures c.in_default.is refl
 
 pub fire_by-requires : goal.fire_by-requires
-fire_by-requires c = (c.requires.0, c.requires.3, relay_voice _ _ _ _ c.requires.1 c.requires.2 c.partner_output.ensures c.in-One.is)
+fire_by-requires c = relay_voice _ _ _ _ c.requires.0 c.requires.1 c.partner_output.ensures c.in-Some.is
 
 pub returns : goal.returns
-returns c = relay_one _ _ _ _ _ _ _ _ _ c.pass_all.ensures c.partner_output.ensures c.in-One.is c.fire_by.ensures
+returns c = relay_one _ _ _ _ _ _ _ _ _ c.pass_all.ensures c.partner_output.ensures c.in-Some.is c.fire_by.ensures

@@ -2,9 +2,6 @@
 use Rattle.moves_tell.proofs.Telling.{change_none, change_some}
 use Rattle.moves_tell.proofs.change_size.Goals as goal
 
-pub action_number-requires : goal.action_number-requires
-action_number-requires c = (c.requires.0, c.requires.2)
-
 pub returns-then-action_number-eq0 : goal.returns-then-action_number-eq0
 returns-then-action_number-eq0 c = change_none _ _ _ c.transition_frame.ensures.is c.field-to.ensures.0 c.action_number.ensures c.if-action_number-eq0.true
 

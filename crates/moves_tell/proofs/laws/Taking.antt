@@ -17,8 +17,7 @@ use Rattle.rules_tables.specs.declared.Shape.{Shape}
 use Rattle.rules_tables.specs.Good.{Good}
 use Rattle.rules_tables.specs.Ids.{first_variable, first_association, inputs, associations, variables, input_frame, association_frame, variable_frame}
 use Rattle.rules_tables.specs.Owned.{belongs, rank, is_nth}
-use Rattle.table_parts.specs.declared.Found.{Found}
-use Rattle.table_parts.specs.declared.Found.TheVariants.{One, Missing}
+use Rattle.std.specs.Prelude.{Option, Some, None}
 use Rattle.table_parts.specs.Found.{found_of}
 use Rattle.table_parts.proofs.laws.Found.{found_one, found_missing}
 use Rattle.table_index.specs.Leads.{Leads}
@@ -117,16 +116,16 @@ module _ (T : List ℕ) (S : Shape) (i : ℕ) where
     sampled_is e p q r = rw (r, q, p) (told_alone (associated T S i v) (eqb (value S s v) (buffer S s v)) _ (sym h ∙ e))
 
   -- the partner of input v, as the search answered
-  module _ (s : List ℕ) (v : ℕ) (r : Found) (e : r ≡ found_of (partner_variable T S v)) where
-    pub pass_none : r ≡ Missing → [] ≡ partner_entry T S i s v
+  module _ (s : List ℕ) (v : ℕ) (r : Option ℕ) (e : r ≡ found_of (partner_variable T S v)) where
+    pub pass_none : r ≡ None → [] ≡ partner_entry T S i s v
     unfolding partner_entry passed_to
     pass_none d = rw (found_missing (partner_variable T S v) r e d)
 
-    pub pass_one : {u : ℕ} → r ≡ One u → passed_from T S i s u v ≡ partner_entry T S i s v
+    pub pass_one : {u : ℕ} → r ≡ Some u → passed_from T S i s u v ≡ partner_entry T S i s v
     unfolding partner_entry passed_to
     pass_one {u} d = rw (found_one (partner_variable T S v) r u e d)
 
-    pub pass_in : {u : ℕ} → r ≡ One u → u < variables S
+    pub pass_in : {u : ℕ} → r ≡ Some u → u < variables S
     unfolding partner_variable
     pass_in {u} d =
         let el = variable_owner T S v in

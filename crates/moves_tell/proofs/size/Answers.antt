@@ -4,7 +4,7 @@ use Rattle.moves_tell.proofs.laws.Sizing.{few_bytes, size_all}
 use Rattle.moves_tell.proofs.size.Goals as goal
 
 pub overflow_add-result : goal.overflow_add-result
-overflow_add-result c = let h = size_all _ _ _ _ _ _ c.requires.0 c.first_size.ensures c.numbers_size.ensures in let m = few_bytes _ _ _ _ _ _ c.requires.0 in omega arith
+overflow_add-result c = let h = size_all _ _ _ _ _ _ c.args.turn.telling c.first_size.ensures c.numbers_size.ensures in let m = few_bytes _ _ _ _ _ _ c.args.turn.telling in omega arith
 
 pub returns : goal.returns
-returns c = size_all _ _ _ _ _ _ c.requires.0 c.first_size.ensures c.numbers_size.ensures
+returns c = size_all _ _ _ _ _ _ c.args.turn.telling c.first_size.ensures c.numbers_size.ensures

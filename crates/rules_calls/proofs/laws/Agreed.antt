@@ -3,12 +3,10 @@ use Rattle.std.specs.Prelude.{ℕ, ◌≡◌, List}
 use Rattle.std.proofs.Common.{sym, ap, ◌∙◌}
 use Rattle.std.specs.Borrow.{Bor}
 use Rattle.rules_tables.specs.declared.Span.{Span}
-use Rattle.rules_tables.specs.declared.Judged.{Judged}
-use Rattle.rules_tables.specs.Judge.{judged}
+use Rattle.rules_tables.specs.Judge.{judged, Judged}
 use Rattle.rules_tables.specs.View.{kind_span, step_span, IsPart}
 use Rattle.rules_tables.proofs.laws.View.{one_part}
-use Rattle.rules_calls.specs.declared.Answer.{Answer}
-use Rattle.rules_calls.specs.Answer.{moves_of, bytes_of, stop_of, untrue_of}
+use Rattle.rules_calls.specs.Answer.{moves_of, bytes_of, stop_of, untrue_of, Answer}
 use Rattle.rules_calls.specs.Public.{LoadCall, AdvanceCall, ArrivalCall, RunCall}
 use Rattle.rules_calls.proofs.laws.Public.{run_store_lem, run_output_lem}
 use Rattle.rules_calls.specs.Exports.{packed, LoadTold, AdvanceTold, ArrivalTold, RunTold, Lies}

@@ -1,10 +1,9 @@
 -- What a call knows of its table once the check has told: the verdict, the shape, and that the table is good to run with it; and the need.
-use Rattle.std.specs.Prelude.{◌≡◌, List, ℕ}
+use Rattle.std.specs.Prelude.{◌≡◌, List, ℕ, Ok, Err}
 use Rattle.std.proofs.Common.{sym, ap, ◌∙◌}
 use Rattle.rules_tables.specs.declared.Shape.{Shape}
-use Rattle.rules_tables.specs.declared.Judged.{Judged}
-use Rattle.rules_tables.specs.declared.Judged.TheVariants.{Sound, Refused as «Faulty»}
-use Rattle.rules_tables.specs.Judge.{accepted, refused, judge, judged, shape_of}
+use Rattle.rules_tables.specs.declared.Refusal.{Refusal}
+use Rattle.rules_tables.specs.Judge.{accepted, refused, judge, judged, shape_of, Judged}
 use Rattle.rules_tables.proofs.laws.Judge.{was_sound, was_refused}
 use Rattle.rules_tables.proofs.laws.Accepted.{accepted_means}
 use Rattle.rules_store.specs.Layout.{need}
@@ -14,10 +13,10 @@ use Rattle.rules_calls.specs.Exports.{need_or0}
 
 -- ---- what the check told
 module _ (T : List ℕ) {j : Judged} (told : j ≡ judged T) where
-  pub faulty : {q f : ℕ} → j ≡ «Faulty» q f → judge T ≡ refused q f
-  faulty e = was_refused T _ _ (sym told ∙ e)
+  pub faulty : {r : Refusal} → j ≡ Err r → judge T ≡ refused r.number r.frame
+  faulty e = was_refused T _ (sym told ∙ e)
 
-  module _ {S : Shape} (sound : j ≡ Sound S) where
+  module _ {S : Shape} (sound : j ≡ Ok S) where
     pub verdict : judge T ≡ accepted
     verdict = (was_sound T S (sym told ∙ sound)).0
 
@@ -29,8 +28,8 @@ module _ (T : List ℕ) {j : Judged} (told : j ≡ judged T) where
 
 -- ---- the need
 module _ (T : List ℕ) {j : Judged} (told : j ≡ judged T) where
-  pub need_faulty : {q f : ℕ} → j ≡ «Faulty» q f → 0 ≡ need_or0 T
+  pub need_faulty : {r : Refusal} → j ≡ Err r → 0 ≡ need_or0 T
   need_faulty e = rw (faulty T told e)
 
-  pub need_sound : {S : Shape} {n : ℕ} → j ≡ Sound S → n ≡ need S → n ≡ need_or0 T
+  pub need_sound : {S : Shape} {n : ℕ} → j ≡ Ok S → n ≡ need S → n ≡ need_or0 T
   need_sound e u = rw (verdict T told e) (u ∙ ap need (shape T told e))

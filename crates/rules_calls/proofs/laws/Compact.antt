@@ -1,5 +1,5 @@
 -- A refusal has a number up to 11, and the frame named is one of at most 4,096: so the two fit one number.
-use Rattle.std.specs.Prelude.{◌≡◌, List, Bool, true, false, eqb, ltb, length}
+use Rattle.std.specs.Prelude.{◌≡◌, List, Bool, true, false, eqb, ltb, length, Ok, Err}
 use Rattle.std.proofs.Math.Path.{refl}
 use Prim.Native.Nat.{ℕ, zero, suc, ◌≤◌}
 use native.Mathlib.Omega.{arith}
@@ -10,18 +10,17 @@ use Rattle.rules_tables.specs.Form.{form_ok}
 use Rattle.rules_tables.specs.Reference.{refers_ok}
 use Rattle.rules_tables.specs.Network.{rules_ok}
 use Rattle.rules_tables.specs.declared.Shape.{Shape}
-use Rattle.rules_tables.specs.Judge.{Verdict, accepted, refused, next, number, frame, fault_at, scan_to, length_ok, judge, answer, judged, shape_of}
+use Rattle.rules_tables.specs.Judge.{Verdict, accepted, refused, next, number, frame, fault_at, scan_to, length_ok, judge, answer, judged, shape_of, refusal}
 use Rattle.rules_tables.proofs.laws.Judge.{length_few}
 use Rattle.rules_store.specs.Layout.{need}
 use Rattle.rules_store.specs.Word.{now_of}
 use Rattle.rules_store.specs.WellFormed.{well_formed}
 use Rattle.rules_calls.specs.Calls.{wrong_time, beyond_due, of_source, value_count}
-use Rattle.rules_calls.specs.declared.Answer.{Answer}
-use Rattle.rules_calls.specs.declared.Answer.TheVariants.{Refused, Done}
-use Rattle.rules_calls.specs.Answer.{number_of, frame_of, answer_by, refused_of}
+use Rattle.rules_calls.specs.Answer.{number_of, frame_of, answer_by, refused_of, Answer}
 use Rattle.rules_calls.specs.Refusals.{or_else, load_refusal, store_refusal, time_refusal, advance_refusal, event_refusal, arrival_refusal}
 use Rattle.rules_calls.specs.Public.{run_moves, run_answer, LoadCall, AdvanceCall, ArrivalCall, RunCall}
 use Rattle.rules_calls.specs.Compact.{Compact}
+use Rattle.rules_calls.specs.declared.Outcome.TheVariants.{Done}
 
 -- what `fault_at` picks from
 picked : (a b c : Bool) → pick a (pick b (pick c 0 4) 3) 2 ≤ 4
@@ -108,26 +107,26 @@ module _ (T : List ℕ) where
     where
       by : (v : Verdict) → Few v 4096 → Compact (answer_by v q done)
       by accepted h =
-          by_test Compact (eqb q 0) done (Refused q 0) (λ _. record { low = omega (arith, n); inside = omega (arith, g) })
+          by_test Compact (eqb q 0) done (Err (refusal q 0)) (λ _. record { low = omega (arith, n); inside = omega (arith, g) })
           (λ _. record { low = l; inside = omega arith })
       by (refused p f) h = record { low = omega (arith, h.low); inside = h.inside }
 
   module _ (s : List ℕ) {a : Answer} {s' : List ℕ} where
     pub load_compact : LoadCall T s a s' → Compact a
-    load_compact c = rw c.answer (told_compact (load_refusal (shape_of T) s) Done (load_few (shape_of T) s) refl refl)
+    load_compact c = rw c.answer (told_compact (load_refusal (shape_of T) s) (Ok Done) (load_few (shape_of T) s) refl refl)
 
     pub advance_compact : (t : ℕ) → AdvanceCall T s t a s' → Compact a
     unfolding advance_refusal
     advance_compact t c =
         rw c.answer
-        (told_compact (advance_refusal T (shape_of T) s t) Done
+        (told_compact (advance_refusal T (shape_of T) s t) (Ok Done)
         (either_few (store_refusal T (shape_of T) s) (time_refusal (shape_of T) s t) (store_few T (shape_of T) s) (time_few (shape_of T) s t)) refl refl)
 
     pub arrival_compact : (o birth : ℕ) (vs : List ℕ) → ArrivalCall T s o birth vs a s' → Compact a
     unfolding arrival_refusal
     arrival_compact o birth vs c =
         rw c.answer
-        (told_compact (arrival_refusal T (shape_of T) s o birth vs) Done
+        (told_compact (arrival_refusal T (shape_of T) s o birth vs) (Ok Done)
         (either_few (store_refusal T (shape_of T) s) (event_refusal T (shape_of T) s o birth vs) (store_few T (shape_of T) s)
         (event_few T (shape_of T) s o birth vs)) refl refl)
 

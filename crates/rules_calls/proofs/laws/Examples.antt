@@ -1,5 +1,5 @@
 -- Computed examples: what no law says of the rules of the calls, so that code and definition cannot change it together.
-use Rattle.std.specs.Prelude.{◌≡◌, true, false, List, [], ◌∷◌, map, ℕ, eqb, ltb, length, set, replicate}
+use Rattle.std.specs.Prelude.{◌≡◌, true, false, List, [], ◌∷◌, map, ℕ, eqb, ltb, length, set, replicate, Ok, Err}
 use Rattle.std.proofs.Math.Path.{refl}
 use Rattle.rules_walks.specs.All.{all_to}
 use Rattle.rules_walks.specs.Choose.{choose}
@@ -7,16 +7,17 @@ use Rattle.rules_walks.specs.First.{first_from}
 use Rattle.rules_walks.specs.Walk.{up_to}
 use Rattle.rules_tables.specs.declared.Shape.{Shape}
 use Rattle.rules_tables.specs.Ids.{inputs, outputs, variables}
+use Rattle.rules_tables.specs.Judge.{refusal}
 use Rattle.rules_store.specs.Layout.{need, element_at}
 use Rattle.rules_store.specs.Word.{now_of, put_now, running_element, current_event, running_of, spare_at, spare_word, due_flag, due_time, set_due, next_due, put_next}
 use Rattle.rules_store.specs.Due.{due_at, nothing_due, due_then, sooner, earliest, put_due}
 use Rattle.rules_store.specs.WellFormed.{spare_ok, is_next, next_ok, rest_ok, running_ok, parts_ok, well_formed}
 use Rattle.rules_moves.specs.Take.{fire_found}
-use Rattle.rules_calls.specs.declared.Answer.TheVariants.{Refused, Ran}
 use Rattle.rules_calls.specs.Calls.{expired, expire, advanced, wrong_time, due_before, of_source, value_count}
 use Rattle.rules_calls.specs.Exports.{packed}
 use Rattle.rules_calls.specs.Refusals.{load_refusal, store_refusal, event_refusal}
 use Rattle.rules_calls.specs.Run.{another, room_for, stop_after}
+use Rattle.rules_calls.specs.declared.Outcome.TheVariants.{Ran}
 
 -- a network of so many elements and of nothing else
 abbrev elements_only : ℕ → Shape
@@ -115,5 +116,5 @@ module _ (T : List ℕ) (S : Shape) (time room : ℕ) (s : List ℕ) (n : ℕ) w
   no_budget e f = rw (e, f) refl
 
 -- ---- an answer as one number: refusal 4 at frame 19; a run is not refused
-pub packed_answers : map packed (Refused 4 19 ∷ Ran 7 20 3 5 ∷ []) ≡ 262163 ∷ 0 ∷ []
+pub packed_answers : map packed (Err (refusal 4 19) ∷ Ok (Ran 7 20 3 5) ∷ []) ≡ 262163 ∷ 0 ∷ []
 packed_answers = refl

@@ -1,6 +1,6 @@
 -- An answer tells document 01's numbers, and what a run leaves is what the moves that it tells leave: so each call's statement follows from its answer, its
 -- store and its output.
-use Rattle.std.specs.Prelude.{◌≡◌, List, Bool, ℕ, eqb}
+use Rattle.std.specs.Prelude.{◌≡◌, List, Bool, ℕ, eqb, Ok, Err}
 use Rattle.std.proofs.Math.Path.{refl}
 use Rattle.std.proofs.Common.{sym, ap, ◌∙◌, eqb-true}
 use Rattle.std.proofs.Math.Bool.{true, false}
@@ -9,14 +9,13 @@ use Rattle.std.proofs.Math.Seq.{sets}
 use Rattle.rules_walks.specs.Pick.{pick}
 use Rattle.rules_walks.specs.Choose.{choose}
 use Rattle.rules_tables.specs.declared.Shape.{Shape}
-use Rattle.rules_tables.specs.Judge.{Verdict, accepted, refused, frame, judge, shape_of}
+use Rattle.rules_tables.specs.Judge.{Verdict, accepted, refused, frame, judge, shape_of, refusal}
 use Rattle.rules_store.specs.Word.{now_of}
 use Rattle.rules_calls.specs.Run.{after, bytes, untrue_in, stop_after}
-use Rattle.rules_calls.specs.declared.Answer.{Answer}
-use Rattle.rules_calls.specs.declared.Answer.TheVariants.{Refused, Done}
-use Rattle.rules_calls.specs.Answer.{number_of, frame_of, moves_of, bytes_of, stop_of, untrue_of, answer_by, kept_by}
+use Rattle.rules_calls.specs.Answer.{number_of, frame_of, moves_of, bytes_of, stop_of, untrue_of, answer_by, kept_by, Answer}
 use Rattle.rules_calls.specs.Refusals.{load_refusal, store_refusal, advance_refusal, arrival_refusal}
 use Rattle.rules_calls.specs.Public.{run_moves, run_answer, load_answer, load_store, advance_answer, advance_store, arrival_answer, arrival_store, run_answered, run_store, run_output, number_by, count_by, Tells, LoadCall, AdvanceCall, ArrivalCall, RunCall}
+use Rattle.rules_calls.specs.declared.Outcome.TheVariants.{Done}
 
 -- what is answered for a verdict v and a refusal q of the call, where a call that is done tells no number and no frame
 module _ (v : Verdict) (q : ℕ) where
@@ -28,19 +27,19 @@ module _ (v : Verdict) (q : ℕ) where
       by (refused p g) = record { number_is = refl; frame_is = refl; moves_are = refl; bytes_are = refl; stop_is = refl; untrue_are = refl }
       by accepted = at (eqb q 0) refl
         where
-          at : (b : Bool) → eqb q 0 ≡ b → Tells (pick b d (Refused q 0)) q 0 (pick b (moves_of d) 0) (pick b (bytes_of d) 0) (pick b (stop_of d) 0) (pick b (untrue_of d) 0)
+          at : (b : Bool) → eqb q 0 ≡ b → Tells (pick b d (Err (refusal q 0))) q 0 (pick b (moves_of d) 0) (pick b (bytes_of d) 0) (pick b (stop_of d) 0) (pick b (untrue_of d) 0)
           at true e = record { number_is = n ∙ sym (eqb-true q 0 e); frame_is = f; moves_are = refl; bytes_are = refl; stop_is = refl; untrue_are = refl }
           at false e = record { number_is = refl; frame_is = refl; moves_are = refl; bytes_are = refl; stop_is = refl; untrue_are = refl }
 
   -- a call without counts
-  pub done_tells : (r : Answer) → r ≡ answer_by v q Done → Tells r (number_by v q) (frame v) 0 0 0 0
+  pub done_tells : (r : Answer) → r ≡ answer_by v q (Ok Done) → Tells r (number_by v q) (frame v) 0 0 0 0
   done_tells r e = rw e (by v)
     where
-      by : (w : Verdict) → Tells (answer_by w q Done) (number_by w q) (frame w) 0 0 0 0
+      by : (w : Verdict) → Tells (answer_by w q (Ok Done)) (number_by w q) (frame w) 0 0 0 0
       by (refused p g) = record { number_is = refl; frame_is = refl; moves_are = refl; bytes_are = refl; stop_is = refl; untrue_are = refl }
       by accepted = at (eqb q 0) refl
         where
-          at : (b : Bool) → eqb q 0 ≡ b → Tells (pick b Done (Refused q 0)) q 0 0 0 0 0
+          at : (b : Bool) → eqb q 0 ≡ b → Tells (pick b (Ok Done) (Err (refusal q 0))) q 0 0 0 0 0
           at true e = record { number_is = sym (eqb-true q 0 e); frame_is = refl; moves_are = refl; bytes_are = refl; stop_is = refl; untrue_are = refl }
           at false e = record { number_is = refl; frame_is = refl; moves_are = refl; bytes_are = refl; stop_is = refl; untrue_are = refl }
 

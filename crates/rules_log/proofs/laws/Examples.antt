@@ -14,8 +14,8 @@ use Rattle.rules_moves.specs.Connected.{connected}
 use Rattle.rules_moves.specs.Partner.{input_owner, output_owner}
 use Rattle.rules_moves.specs.Record.{put_out}
 use Rattle.rules_moves.specs.Take.{dt_of, is_start, sampled}
-use Rattle.rules_calls.specs.declared.Answer.{Answer}
 use Rattle.rules_calls.specs.Public.{AdvanceCall, ArrivalCall, RunCall}
+use Rattle.rules_calls.specs.Answer.{Answer}
 use Rattle.rules_log.specs.Log.{How, begins, goes_on, takes, fires, Log, empty, more}
 use Rattle.rules_log.specs.Origin.{Event, waits, Chain, born, no_chain, birth_in, Begun, fresh, Ordered, origin, last_sampled, last_copied, records_of}
 use Rattle.rules_log.specs.Timer.{Timer, until, rests, start_timer, timer}

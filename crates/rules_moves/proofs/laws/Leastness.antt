@@ -14,8 +14,8 @@ use Rattle.rules_tables.specs.declared.Shape.{Shape}
 use Rattle.rules_tables.specs.Ids.{inputs}
 use Rattle.rules_store.specs.Word.{waiting, last_update}
 use Rattle.rules_moves.specs.declared.Key.{Key}
-use Rattle.rules_moves.specs.declared.Best.{Best}
-use Rattle.rules_moves.specs.declared.Best.TheVariants.{At, Nothing}
+use Rattle.rules_moves.specs.Least.{Best}
+use Rattle.std.specs.Prelude.{Some, None}
 use Rattle.rules_moves.specs.Least.{key_of, beats, better, look, least}
 use Rattle.rules_moves.specs.Order.{NoLater, Least}
 
@@ -66,12 +66,12 @@ no_later_last k h = ⊎_elim (λ a. omega arith) (λ a. let e = a.0 in omega ari
 module _ (T : List ℕ) (S : Shape) (s : List ℕ) where
   -- what the walk has found among the first n
   abbrev Found : ℕ → Best → Type 0
-  Found n Nothing = (c : ℕ) → c < n → waiting S s c ≡ 0
-  Found n (At i k) = Least T S s n i × (k ≡ key_of T S s i)
+  Found n None = (c : ℕ) → c < n → waiting S s c ≡ 0
+  Found n (Some (i, k)) = Least T S s n i × (k ≡ key_of T S s i)
 
   later : (n : ℕ) (x : Best) → waiting S s n ≡ 0 → Found n x → Found (suc n) x
-  later n Nothing z w = λ c l. ⊎_elim (λ e. rw e z) (λ b. w c b) (eq-or-lt_of_le (le_of_suc-le-suc l))
-  later n (At i k) z w =
+  later n None z w = λ c l. ⊎_elim (λ e. rw e z) (λ b. w c b) (eq-or-lt_of_le (le_of_suc-le-suc l))
+  later n (Some (i, k)) z w =
       let a = w.0 in (
         record {
           inside = let q = a.inside in omega arith;
@@ -83,7 +83,7 @@ module _ (T : List ℕ) (S : Shape) (s : List ℕ) where
 
   against : (n : ℕ) (x : Best) → (waiting S s n ≡ 0 → ⊥) → Found n x → Found (suc n) (better n (key_of T S s n) x)
   unfolding better
-  against n Nothing h w = (
+  against n None h w = (
     record {
       inside = omega arith;
       waits = h;
@@ -91,9 +91,9 @@ module _ (T : List ℕ) (S : Shape) (s : List ℕ) where
     },
     refl,
   )
-  against n (At i k) h w = by (beats (key_of T S s n) k) refl
+  against n (Some (i, k)) h w = by (beats (key_of T S s n) k) refl
     where
-      by : (b : Bool) → beats (key_of T S s n) k ≡ b → Found (suc n) (pick b (At n (key_of T S s n)) (At i k))
+      by : (b : Bool) → beats (key_of T S s n) k ≡ b → Found (suc n) (pick b (Some (n, key_of T S s n)) (Some (i, k)))
       by true e =
           let m : NoLater (key_of T S s n) (key_of T S s i) = rw w.1 at (beats_no_later (key_of T S s n) k e) in (
             record {
@@ -125,13 +125,13 @@ module _ (T : List ℕ) (S : Shape) (s : List ℕ) where
 
   found : Found (inputs S) (least T S s)
   unfolding least
-  found = up_to_carries (λ (n : ℕ) (x : Best). Found n x) (look T S s) (inputs S) Nothing (λ n l x w. looked n x w) (λ c l. absurd (not-suc-le-zero l))
+  found = up_to_carries (λ (n : ℕ) (x : Best). Found n x) (look T S s) (inputs S) None (λ n l x w. looked n x w) (λ c l. absurd (not-suc-le-zero l))
 
-  pub least_means : (i : ℕ) (k : Key) → least T S s ≡ At i k → Least T S s (inputs S) i
-  least_means i k e = let w : Found (inputs S) (At i k) = rw e at found in w.0
+  pub least_means : (i : ℕ) (k : Key) → least T S s ≡ Some (i, k) → Least T S s (inputs S) i
+  least_means i k e = let w : Found (inputs S) (Some (i, k)) = rw e at found in w.0
 
-  pub least_none : least T S s ≡ Nothing → (c : ℕ) → c < inputs S → waiting S s c ≡ 0
-  least_none e = let w : Found (inputs S) Nothing = rw e at found in w
+  pub least_none : least T S s ≡ None → (c : ℕ) → c < inputs S → waiting S s c ≡ 0
+  least_none e = let w : Found (inputs S) None = rw e at found in w
 
   -- no waiting event has an earlier last update
   pub least_before : (n i : ℕ) → Least T S s n i → (c : ℕ) → c < n → (waiting S s c ≡ 0 → ⊥) → last_update S s i ≤ last_update S s c

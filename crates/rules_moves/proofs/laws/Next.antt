@@ -16,8 +16,8 @@ use Rattle.rules_tables.specs.Good.{Good}
 use Rattle.rules_tables.specs.Ids.{inputs, transitions, actions, steps, action_frame}
 use Rattle.rules_store.specs.Running.{idle, charts}
 use Rattle.rules_store.specs.Word.{current_event}
-use Rattle.rules_moves.specs.declared.Best.{Best}
-use Rattle.rules_moves.specs.declared.Best.TheVariants.{At, Nothing as «NoEvent»}
+use Rattle.rules_moves.specs.Least.{Best}
+use Rattle.std.specs.Prelude.{Some, None}
 use Rattle.rules_moves.specs.Least.{least}
 use Rattle.rules_moves.proofs.laws.Leastness.{least_means}
 use Rattle.rules_moves.specs.Chart.{enabled, transition_of, state_of}
@@ -32,8 +32,8 @@ use Rattle.rules_moves.specs.Means.{Acting, Stepping, Means}
 module _ (T : List ℕ) (S : Shape) (r : Running) (s : List ℕ) where
   event_means : r.mode ≡ idle → (x : Best) → least T S s ≡ x → Means T S r s (event_next x)
   unfolding event_next
-  event_means z (At i k) e = (z, least_means T S s i k e)
-  event_means z «NoEvent» e = (z, e)
+  event_means z (Some (i, k)) e = (z, least_means T S s i k e)
+  event_means z None e = (z, e)
 
   chart_means : r.mode ≡ charts → (x : Sought) → transition_of T S s (state_of s) (current_event s) r.live ≡ x → Means T S r s (chart_next x)
   unfolding chart_next

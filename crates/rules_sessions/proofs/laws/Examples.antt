@@ -1,15 +1,15 @@
 -- Computed examples: what no law says of the rules of sessions, so that code and definition cannot change it together. 48 is the character 0, 56 is 8, 65 is A.
-use Rattle.std.specs.Prelude.{◌≡◌, refl, true, false, List, [], ◌∷◌, map, ℕ, replicate}
+use Rattle.std.specs.Prelude.{◌≡◌, refl, true, false, List, [], ◌∷◌, map, ℕ, replicate, Ok}
 use Rattle.rules_walks.specs.All.{all_to}
 use Rattle.rules_numbers.specs.Bytes.{half_at, half_bytes, word_bytes}
 use Rattle.rules_tables.specs.Frame.{kind_at, flag_at, field_at}
-use Rattle.rules_calls.specs.declared.Answer.TheVariants.{Ran}
 use Rattle.rules_sessions.specs.declared.Command.TheVariants.{Advance, Value, Run, Wrong}
 use Rattle.rules_sessions.specs.AnswerLine.{answer_frame, answer_line}
 use Rattle.rules_sessions.specs.Command.{long_at, last_clear, plain, advance_of, run_of, command_of}
 use Rattle.rules_sessions.specs.Line.{is_digit, all_digits, line_ok, opens}
 use Rattle.rules_sessions.specs.Session.{awaiting, malformed, call_by, end_deed}
 use Rattle.rules_sessions.specs.Text.{glyph, pair, digits, line_of}
+use Rattle.rules_calls.specs.declared.Outcome.TheVariants.{Ran}
 
 -- ---- "lines .. of 2 to 24 upper-case hexadecimal digits, an even number": 8, 80, 800, 8A, 8a, 8G, and lines of zeros
 pub lines : map line_ok ((56 ∷ []) ∷ (56 ∷ 48 ∷ []) ∷ (56 ∷ 48 ∷ 48 ∷ []) ∷ (56 ∷ 65 ∷ []) ∷ (56 ∷ 97 ∷ []) ∷ (56 ∷ 71 ∷ []) ∷ replicate 24 48 ∷ replicate 26 48 ∷ [])
@@ -34,7 +34,7 @@ pub answer_frame_lem : answer_frame 4 19 8 1 20 ≡ 192 ∷ 4 ∷ 0 ∷ 19 ∷ 0
 unfolding answer_frame half_bytes word_bytes
 answer_frame_lem = refl
 
-pub answer_of_run : answer_line (Ran 8 20 1 3) ≡ line_of (192 ∷ 0 ∷ 0 ∷ 0 ∷ 0 ∷ 0 ∷ 0 ∷ 8 ∷ 0 ∷ 1 ∷ 0 ∷ 20 ∷ [])
+pub answer_of_run : answer_line (Ok (Ran 8 20 1 3)) ≡ line_of (192 ∷ 0 ∷ 0 ∷ 0 ∷ 0 ∷ 0 ∷ 0 ∷ 8 ∷ 0 ∷ 1 ∷ 0 ∷ 20 ∷ [])
 unfolding answer_frame half_bytes word_bytes
 answer_of_run = refl
 

@@ -1,5 +1,5 @@
 -- What a call answers fits its line, and what a run prints is one line for each move that writes a record, then its answer.
-use Rattle.std.specs.Prelude.{◌≡◌, List, ◌++◌, ℕ, ◌≤◌, ◌<◌, eqb, length, take}
+use Rattle.std.specs.Prelude.{◌≡◌, List, ◌++◌, ℕ, ◌≤◌, ◌<◌, eqb, length, take, Ok, Err}
 use Rattle.std.proofs.Math.Path.{refl}
 use Rattle.std.proofs.Common.{ap, ◌∙◌, arith}
 use Rattle.std.proofs.lemmas.List.Edits.{sets}
@@ -7,12 +7,10 @@ use Rattle.rules_walks.proofs.laws.Pick.{by_test}
 use Rattle.rules_walks.specs.Choose.{choose}
 use Rattle.rules_numbers.proofs.laws.Sets.{part_sets}
 use Rattle.rules_tables.specs.declared.Shape.{Shape}
-use Rattle.rules_tables.specs.Judge.{Verdict, accepted, refused, judge, answer, shape_of}
+use Rattle.rules_tables.specs.Judge.{Verdict, accepted, refused, judge, answer, shape_of, refusal}
 use Rattle.rules_store.specs.Word.{now_of}
 use Rattle.rules_calls.specs.Run.{bytes, another, room_for, stop_after}
-use Rattle.rules_calls.specs.declared.Answer.{Answer}
-use Rattle.rules_calls.specs.declared.Answer.TheVariants.{Refused, Done}
-use Rattle.rules_calls.specs.Answer.{moves_of, stop_of, bytes_of, answer_by, kept_by}
+use Rattle.rules_calls.specs.Answer.{moves_of, stop_of, bytes_of, answer_by, kept_by, Answer}
 use Rattle.rules_calls.specs.Refusals.{load_refusal, store_refusal, advance_refusal, arrival_refusal}
 use Rattle.rules_calls.specs.Public.{run_moves, run_answer, load_answer, load_store, advance_answer, advance_store, arrival_answer, arrival_store, run_answered, run_store, run_output}
 use Rattle.rules_calls.proofs.laws.Public.{load_call, advance_call, arrival_call, run_call}
@@ -26,6 +24,7 @@ use Rattle.rules_sessions.proofs.laws.RunLines.{split_run}
 use Rattle.rules_sessions.specs.RunText.{run_text}
 use Rattle.rules_sessions.specs.Fits.{Fits}
 use Rattle.rules_calls.proofs.laws.Run.{moves_fit, bytes_fit}
+use Rattle.rules_calls.specs.declared.Outcome.TheVariants.{Done}
 
 -- ---- the bytes of a run fit its output
 module _ (T : List ℕ) (S : Shape) (time room : ℕ) (s : List ℕ) where
@@ -40,14 +39,14 @@ record Counts (a : Answer) : Type 0 where
   pub stop_low : stop_of a < 65536
   pub bytes_low : bytes_of a < 65536
 
-none_counted : (q f : ℕ) → Counts (Refused q f)
+none_counted : (q f : ℕ) → Counts (Err (refusal q f))
 none_counted q f = record { moves_low = omega arith; stop_low = omega arith; bytes_low = omega arith }
 
-done_counted : Counts Done
+done_counted : Counts (Ok Done)
 done_counted = record { moves_low = omega arith; stop_low = omega arith; bytes_low = omega arith }
 
 counts_fit : (v : Verdict) (q : ℕ) (done : Answer) → Counts done → Counts (answer_by v q done)
-counts_fit accepted q done w = by_test Counts (eqb q 0) done (Refused q 0) (λ _. w) (λ _. none_counted q 0)
+counts_fit accepted q done w = by_test Counts (eqb q 0) done (Err (refusal q 0)) (λ _. w) (λ _. none_counted q 0)
 counts_fit (refused p f) q done w = none_counted p f
 
 compact_fits : (a : Answer) → Compact a → Counts a → Fits a
@@ -58,18 +57,18 @@ module _ (T s : List ℕ) where
   pub load_fits : Fits (load_answer T s)
   load_fits =
       compact_fits (load_answer T s) (load_compact T s {a = load_answer T s} {s' = load_store T s} (load_call T s refl refl))
-      (counts_fit (judge T) (load_refusal (shape_of T) s) Done done_counted)
+      (counts_fit (judge T) (load_refusal (shape_of T) s) (Ok Done) done_counted)
 
   pub advance_fits : (t : ℕ) → Fits (advance_answer T s t)
   advance_fits t =
       compact_fits (advance_answer T s t) (advance_compact T s {a = advance_answer T s t} {s' = advance_store T s t} t (advance_call T s t refl refl))
-      (counts_fit (judge T) (advance_refusal T (shape_of T) s t) Done done_counted)
+      (counts_fit (judge T) (advance_refusal T (shape_of T) s t) (Ok Done) done_counted)
 
   pub arrival_fits : (o birth : ℕ) (vs : List ℕ) → Fits (arrival_answer T s o birth vs)
   arrival_fits o birth vs =
       compact_fits (arrival_answer T s o birth vs)
       (arrival_compact T s {a = arrival_answer T s o birth vs} {s' = arrival_store T s o birth vs} o birth vs (arrival_call T s o birth vs refl refl))
-      (counts_fit (judge T) (arrival_refusal T (shape_of T) s o birth vs) Done done_counted)
+      (counts_fit (judge T) (arrival_refusal T (shape_of T) s o birth vs) (Ok Done) done_counted)
 
   pub run_fits : (b : ℕ) (out : List ℕ) → b < 4294967296 → length out < 65536 → Fits (run_answered T s b out)
   run_fits b out k l =

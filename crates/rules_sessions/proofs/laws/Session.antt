@@ -1,6 +1,6 @@
 -- Laws of a session's definition: pieces of an input add up, and read from its start to its end it prints what its lines do; a table of more than 4,096 lines
 -- is refused by its length, a line of more than 24 characters is of a wrong form whatever they are.
-use Rattle.std.specs.Prelude.{◌≡◌, List, [], ◌∷◌, ◌++◌, Bool, true, false, ℕ, ◌+◌, ◌%◌, ◌≤◌, ◌<◌, eqb, length, take, get_or}
+use Rattle.std.specs.Prelude.{◌≡◌, List, [], ◌∷◌, ◌++◌, Bool, true, false, ℕ, ◌+◌, ◌%◌, ◌≤◌, ◌<◌, eqb, length, take, get_or, Err}
 use Rattle.std.proofs.Math.Path.{refl}
 use Rattle.std.proofs.Common.{sym, ap, ◌∙◌, append_assoc, ⊎_elim, add-one, arith, length-append, take_all, take-suc, length-take-le}
 use Rattle.std.proofs.Math.Seq.{get_or-take}
@@ -8,8 +8,7 @@ use borrow.Author.Tests.{lt-leb, le-leb}
 use Rattle.rules_walks.proofs.laws.Pick.{both_false, tri}
 use Rattle.rules_walks.specs.Choose.{choose}
 use Rattle.rules_walks.proofs.laws.Choose.{choose_true, choose_false}
-use Rattle.rules_tables.specs.Judge.{refused, judge, length_ok}
-use Rattle.rules_calls.specs.declared.Answer.TheVariants.{Refused}
+use Rattle.rules_tables.specs.Judge.{refused, judge, length_ok, refusal}
 use Rattle.rules_sessions.specs.Line.{line_ok, line_frame, opens}
 use Rattle.rules_sessions.specs.declared.Command.TheVariants.{Wrong}
 use Rattle.rules_sessions.specs.Command.{line_command}
@@ -67,7 +66,7 @@ module _ (T : List ℕ) (l : 49152 < length T) where
   unfolding judge length_ok
   long_judged = rw (lt-leb (length T) 49152 l, both_false (eqb (length T % 12) 0), both_false) refl
 
-  pub many_lines : (s : List ℕ) → load_answer T s ≡ Refused 1 0
+  pub many_lines : (s : List ℕ) → load_answer T s ≡ Err (refusal 1 0)
   many_lines s = rw long_judged refl
 
 -- ---- "lines .. of 2 to 24 .. digits": the first 25 characters of a line decide

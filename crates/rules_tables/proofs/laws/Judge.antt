@@ -1,5 +1,5 @@
 -- Laws of the verdict: what the three passes of the check together answer, and that no frame of an accepted table has a fault.
-use Rattle.std.specs.Prelude.{◌≡◌, List, true, not, eqb, leb}
+use Rattle.std.specs.Prelude.{◌≡◌, List, true, not, eqb, leb, Ok, Err}
 use Rattle.std.proofs.Math.Path.{refl, ap}
 use Rattle.std.proofs.Common.{◌∙◌, eq-or-lt_of_le, le_of_suc-le-suc, not-suc-le-zero}
 use Rattle.std.proofs.Math.Logic.{⊎_elim}
@@ -15,7 +15,7 @@ use Rattle.rules_tables.specs.Form.{form_ok}
 use Rattle.rules_tables.specs.Reference.{refers_ok}
 use Rattle.rules_tables.specs.Network.{rules_ok}
 use Rattle.rules_tables.specs.declared.Shape.{Shape}
-use Rattle.rules_tables.specs.declared.Judged.TheVariants.{Sound, Refused}
+use Rattle.rules_tables.specs.declared.Refusal.{Refusal}
 use Rattle.rules_tables.specs.Judge.{Verdict, accepted, refused, next, fault_at, scan_to, length_ok, judge, answer, judged, shape_of, number, frame, refusal_number, faulty_frame}
 
 next_fault : (q f : ℕ) → (q ≡ 0 → ⊥) → next accepted q f ≡ refused q f
@@ -103,17 +103,20 @@ module _ (T : List ℕ) where
   numbers accepted = (refl, refl)
   numbers (refused q f) = (refl, refl)
 
-sound_case : (v : Verdict) (s s' : Shape) → answer v s ≡ Sound s' → (v ≡ accepted) × (s' ≡ s)
+sound_case : (v : Verdict) (s s' : Shape) → answer v s ≡ Ok s' → (v ≡ accepted) × (s' ≡ s)
 sound_case accepted s s' e = (refl, cc)
 sound_case (refused q f) s s' e = absurd (let z : ◌≡◌ {A = ℕ} 0 1 = cc in omega arith)
 
-refused_case : (v : Verdict) (s : Shape) (q f : ℕ) → answer v s ≡ Refused q f → v ≡ refused q f
-refused_case accepted s q f e = absurd (let z : ◌≡◌ {A = ℕ} 0 1 = cc in omega arith)
-refused_case (refused p g) s q f e = cc
+refused_case : (v : Verdict) (s : Shape) (r : Refusal) → answer v s ≡ Err r → v ≡ refused r.number r.frame
+refused_case accepted s r e = absurd (let z : ◌≡◌ {A = ℕ} 0 1 = cc in omega arith)
+refused_case (refused p g) s r e =
+    let q : p ≡ r.number = ap refusal_number e in
+    let f : g ≡ r.frame = ap faulty_frame e in
+    cc
 
--- what the two arms of a caller's `let .. else` know
-pub was_sound : (T : List ℕ) (s : Shape) → judged T ≡ Sound s → (judge T ≡ accepted) × (s ≡ shape_of T)
+-- what a caller knows of either answer
+pub was_sound : (T : List ℕ) (s : Shape) → judged T ≡ Ok s → (judge T ≡ accepted) × (s ≡ shape_of T)
 was_sound T s e = sound_case (judge T) (shape_of T) s e
 
-pub was_refused : (T : List ℕ) (q f : ℕ) → judged T ≡ Refused q f → judge T ≡ refused q f
-was_refused T q f e = refused_case (judge T) (shape_of T) q f e
+pub was_refused : (T : List ℕ) (r : Refusal) → judged T ≡ Err r → judge T ≡ refused r.number r.frame
+was_refused T r e = refused_case (judge T) (shape_of T) r e

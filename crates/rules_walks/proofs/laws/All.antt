@@ -85,6 +85,11 @@ any_witness p (suc n) e =
     (λ q. record { which = n; below = omega arith; passes = q }) (either_cases (any_to p n) (p n) e)
 
 -- tests that agree below the bound agree there
+pub all_same : (p q : ℕ → Bool) (n : ℕ) → ((i : ℕ) → i < n → p i ≡ q i) → all_to p n ≡ all_to q n
+unfolding all_to
+all_same p q zero h = refl
+all_same p q (suc n) h = rw (all_same p q n (λ i l. h i (omega arith)), h n (omega arith))
+
 pub any_same : (p q : ℕ → Bool) (n : ℕ) → ((i : ℕ) → i < n → p i ≡ q i) → any_to p n ≡ any_to q n
 unfolding any_to
 any_same p q zero h = refl

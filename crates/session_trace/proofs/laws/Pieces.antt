@@ -2,8 +2,7 @@
 use Rattle.std.specs.Prelude.{◌≡◌, true, ◌<◌, eqb, ltb}
 use Rattle.std.proofs.Common.{ltb-true}
 use Rattle.rules_walks.proofs.laws.Pick.{both_right}
-use Rattle.rules_calls.specs.declared.Answer.{Answer}
-use Rattle.rules_calls.specs.Answer.{moves_of, stop_of}
+use Rattle.rules_calls.specs.Answer.{moves_of, stop_of, Answer}
 use Rattle.session_trace.specs.Pieces.{goes_on}
 
 pub goes_moves : (a : Answer) → goes_on a ≡ true → 0 < moves_of a

@@ -19,4 +19,4 @@ pub loop-out-smaller : goal.loop-out-smaller
 loop-out-smaller c = omega (arith, c.show_piece-p.ensures.0.moves_most, goes_moves _ (sym c.goes_on.ensures ∙ c.if-not-goes_on.false))
 
 pub loop-out-preserved : goal.loop-out-preserved
-loop-out-preserved c = (omega (arith, c.show_piece-p.ensures.0.bytes_most), same_len_mid {X = ℕ} c.loop-out.from (4096 - c.loop-out.from) c.loop-out.out c.show_piece-p.new.out c.out-in-loop-out-1.given ∙ c.loop-out.invariant.1, omega (arith, c.show_piece-p.ensures.1.shown_most), omega arith, omega arith, omega arith, omega arith)
+loop-out-preserved c = (omega (arith, c.show_piece-p.ensures.0.bytes_most), same_len_mid {X = ℕ} c.loop-out.from (4096 - c.loop-out.from) c.loop-out.out c.show_piece-p.new.out c.out-in-loop-out-1.given ∙ c.loop-out.invariant.1, omega (arith, c.show_piece-p.ensures.1.shown_most), omega arith, omega arith)

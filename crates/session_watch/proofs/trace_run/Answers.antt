@@ -12,8 +12,8 @@ overflow_sub-left g c = omega (arith, c.trace_piece-p.ensures.moves_most)
 pub overflow_add-from : goal.overflow_add-from
 overflow_add-from g c = omega (arith, c.trace_piece-p.ensures.bytes_most)
 
-pub loop-out-smaller : goal.loop-out-smaller
-loop-out-smaller g c = omega (arith, c.trace_piece-p.ensures.moves_most, goes_moves _ (sym c.goes_on.ensures ∙ c.if-not-goes_on.false))
+pub loop-traced-smaller : goal.loop-traced-smaller
+loop-traced-smaller g c = omega (arith, c.trace_piece-p.ensures.moves_most, goes_moves _ (sym c.goes_on.ensures ∙ c.if-not-goes_on.false))
 
-pub loop-out-preserved : goal.loop-out-preserved
-loop-out-preserved g c = (omega (arith, c.trace_piece-p.ensures.bytes_most), same_len_mid {X = ℕ} c.loop-out.from (4096 - c.loop-out.from) c.loop-out.out c.trace_piece-p.new.out c.out-in-loop-out-1.given ∙ c.loop-out.invariant.1, omega arith, omega arith, omega arith)
+pub loop-traced-preserved : goal.loop-traced-preserved
+loop-traced-preserved g c = (omega (arith, c.trace_piece-p.ensures.bytes_most), same_len_mid {X = ℕ} c.loop-traced.from (4096 - c.loop-traced.from) c.loop-traced.out c.trace_piece-p.new.out c.out-in-loop-traced-1.given ∙ c.loop-traced.invariant.1, omega arith)

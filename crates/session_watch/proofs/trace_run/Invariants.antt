@@ -3,8 +3,8 @@ use mathlib.Core.Path.{◌≡◌}
 use Prim.Native.Nat.{◌≤◌}
 use Rattle.session_watch.proofs.trace_run.Given as goal
 
-abbrev pub invariant-loop-out : goal.invariant-loop-out
-invariant-loop-out g l = (l.from ≤ 4096) × (length l.out ≡ 4096) × (length l.text ≡ length l.initial.text) × (length l.trace ≡ 4800) × (length l.store ≡ length l.initial.store)
+abbrev pub invariant-loop-traced : goal.invariant-loop-traced
+invariant-loop-traced g l = (l.from ≤ 4096) × (length l.out ≡ 4096) × (length l.store ≡ length l.initial.store)
 
-abbrev pub decreases-loop-out : goal.decreases-loop-out
-decreases-loop-out g l = l.left
+abbrev pub decreases-loop-traced : goal.decreases-loop-traced
+decreases-loop-traced g l = l.left

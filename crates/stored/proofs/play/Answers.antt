@@ -1,6 +1,5 @@
 -- `play` is safe and ends: the measure is what is left of the session.
 -- past a mark, or at the end
-use mathlib.Core.Path.{refl}
 use native.Mathlib.Omega.{arith}
 use Prim.Native.Nat.{ℕ, ◌≤◌, ◌<◌, ◌-◌}
 use mathlib.Core.Logic.{⊎_elim}
@@ -10,14 +9,8 @@ use Rattle.stored.proofs.play.Goals as goal
 lesser : (n from to next : ℕ) → from < n → from ≤ to → to ≤ n → to ≤ next → (to < n → to < next) → n - next < n - from
 lesser n from to next a b m c d = ⊎_elim (λ e. omega arith) (λ l. let e = d l in omega arith) (eq-or-lt_of_le m)
 
-pub loop-from-init : goal.loop-from-init
-loop-from-init c = (omega arith, refl, refl, refl, refl, refl)
-
 pub past-from-requires : goal.past-from-requires
-past-from-requires c = omega (arith, c.next_mark-to.ensures.1)
+past-from-requires g c = omega (arith, c.next_mark-to.ensures.1)
 
 pub loop-from-smaller : goal.loop-from-smaller
-loop-from-smaller c = lesser _ _ _ _ c.loop-from-test.true c.next_mark-to.ensures.0 c.next_mark-to.ensures.1 c.past-from.ensures.1 c.past-from.ensures.2
-
-pub loop-from-preserved : goal.loop-from-preserved
-loop-from-preserved c = (omega (arith, c.past-from.ensures.0), omega (arith, c.text-1.given, c.loop-from.invariant.1), omega (arith, c.table-1.given, c.loop-from.invariant.2), omega (arith, c.store-in-loop-from-1.given, c.store-1.given, c.loop-from.invariant.3), omega (arith, c.values-1.given, c.loop-from.invariant.4), omega (arith, c.line-1.given, c.loop-from.invariant.5))
+loop-from-smaller g c = lesser _ _ _ _ c.loop-from-test.true c.next_mark-to.ensures.0 c.next_mark-to.ensures.1 c.past-from.ensures.1 c.past-from.ensures.2

@@ -6,5 +6,5 @@ use native.Mathlib.Omega.{arith}
 use Prim.Native.Nat.{◌/◌}
 use Rattle.table_check.proofs.referring_end.Goals as goal
 
-pub references_end-requires : goal.references_end-requires
-references_end-requires c = let e : c.args.n ≡ length c.args.t.now / 12 = (let l = c.requires.2 in omega arith) in (c.requires.0, c.requires.2, c.requires.3, located_none _ _ refl (rw e at c.requires.3))
+pub invariant_of-frames : goal.invariant_of-frames
+invariant_of-frames c = let e : c.args.n ≡ length c.args.kinds.now.table.now / 12 = (let l = c.requires.1 in omega arith) in record { located = located_none _ _ refl (rw e at c.requires.2) }

@@ -9,7 +9,7 @@ use Rattle.rules_walks.proofs.laws.All.{all_at, all_intro}
 use Rattle.rules_tables.specs.Form.{form_ok}
 use Rattle.rules_tables.proofs.laws.Formed.{formed}
 use Rattle.rules_tables.specs.Place.{Starts, order_at, count_to, below_to, count_of, start_of, place}
-use Rattle.rules_tables.proofs.laws.Places.{kind_hit, kind_miss, below_le, below_next, place_found}
+use Rattle.rules_tables.proofs.laws.Places.{kind_hit, kind_miss, below_le, below_next, place_start, place_found}
 use Rattle.table_frames.specs.Placed.{slot_of, Placed, Nexts, Located}
 use Rattle.table_frames.specs.StartsTo.{StartsTo}
 
@@ -30,7 +30,7 @@ module _ (T : List ℕ) where
   pub slot_in : (f k : ℕ) → f < frames_of T → kind_at T f ≡ k → start_of T k + count_to T k f < frames_of T
   slot_in f k l e = omega (arith, slot_below f k l e, below_le T (k + 1) (frames_of T))
 
-  pub id_in : (k id : ℕ) → id < count_of T k → start_of T k + id < frames_of T
+  id_in : (k id : ℕ) → id < count_of T k → start_of T k + id < frames_of T
   id_in k id l = omega (arith, below_next T k (frames_of T), below_le T (k + 1) (frames_of T))
 
   -- an earlier frame belongs elsewhere
@@ -103,6 +103,25 @@ module _ (T : List ℕ) where
 
   pub located_all : (p : List ℕ) → 0 < length p → frames_of T ≤ length p → Placed T p (frames_of T) → Located T p
   located_all p h l w = record { ordered = λ e. absurd (omega arith); room = λ _. l; placed = λ _. w }
+
+  -- frame `id` of kind k, by the starts at hand; n is the kind's number in the code
+  module _ (at : List ℕ) (k n id : ℕ) (w : Starts T at) (h : n < 12) (q : n ≡ k) (l : id < count_of T k) where
+    start_is : get_or at n 0 ≡ start_of T k
+    start_is = rw (← q) (w.starts n (omega arith))
+
+    pub located_in : get_or at n 0 + id < frames_of T
+    located_in = rw start_is (id_in k id l)
+
+    pub located_room : (p : List ℕ) → Located T p → (length p ≡ 0 → ⊥) → get_or at n 0 + id < length p
+    located_room p v ne = let z = v.room ne in omega (arith, located_in)
+
+    pub located_start : (p : List ℕ) → Located T p → length p ≡ 0 → (get_or at n 0 + id ≡ place T k id) × (get_or at n 0 + id < frames_of T)
+    located_start p v e = (rw start_is (sym (place_start T k id (v.ordered e) l)), located_in)
+
+    pub located_put : (p : List ℕ) → Located T p → (length p ≡ 0 → ⊥) → (x : ℕ) → x ≡ get_or p (get_or at n 0 + id) 0 → (x ≡ place T k id) × (x < frames_of T)
+    located_put p v ne x e =
+        let z : x ≡ place T k id = e ∙ rw start_is (placed_at p k id (v.placed ne) (omega arith) l) in
+        (z, rw z (place_found T k id l).in_table)
 
   -- the starts among all frames are those of the table
   pub starts_whole : (n : ℕ) (at : List ℕ) → n ≡ frames_of T → StartsTo T n at → Starts T at

@@ -1,7 +1,8 @@
 -- Laws of the walk over the frames, kind by kind.
-use Rattle.std.specs.Prelude.{◌≡◌, List, true, false, ◌⊎◌, ℕ, ◌+◌, ◌-◌, ◌≤◌, ◌<◌, ltb, get_or, set, replicate}
+use Rattle.std.specs.Prelude.{◌≡◌, List, true, false, ℕ, ◌+◌, ◌-◌, ◌≤◌, ◌<◌, ltb, get_or, set, replicate}
 use Rattle.std.proofs.Math.Path.{refl}
-use Rattle.std.proofs.Common.{sym, ap, ◌∙◌, inl, inr, ⊎_elim, eq-or-lt_of_le, not-suc-le-zero, arith, length-set, get_or-set_same, get_or-set_other}
+use Rattle.std.proofs.Common.{sym, ap, ◌∙◌, ⊎_elim, eq-or-lt_of_le, not-suc-le-zero, arith, length-set, get_or-set_same, get_or-set_other}
+use Rattle.std.proofs.lemmas.Bool.{cases_lt}
 use Rattle.std.proofs.lemmas.List.{length-replicate, get_or-replicate}
 use borrow.Author.Tests.{ne_eqb, lt-ltb, le-ltb, le-leb, lt-leb}
 use Rattle.rules_walks.proofs.laws.Pick.{both_false, tri}
@@ -14,9 +15,6 @@ use Rattle.rules_tables.proofs.laws.Places.{below_all, below_next, below_rest}
 use Rattle.rules_tables.specs.Form.{form_of, body_ok, form_ok}
 use Rattle.table_frames.specs.StartsTo.{StartsTo}
 use Rattle.table_frames.specs.Walked.{KindTo, KindEnd, Walked}
-
-split : (i n : ℕ) → (i < n) ⊎ (n ≤ i)
-split i n = ⊎_elim (λ l. inl l) (λ w. inr (⊎_elim (λ e. omega arith) (λ g. omega arith) w)) (tri i n)
 
 module _ (T : List ℕ) where
   -- what makes a frame's form, and what breaks it
@@ -98,7 +96,7 @@ module _ (T : List ℕ) where
   -- one kind more
   module _ (from : List ℕ) (k f r : ℕ) (l : 1 ≤ k) (h : k < 12) (w : Walked T from k f) (v : KindEnd T k f r) where
     up_to_kind : (i : ℕ) → i < r → kind_at T i ≤ k
-    up_to_kind i q = ⊎_elim (λ lt. let z = w.below i lt in omega arith) (λ g. let z = v.run.kinds i g q in omega arith) (split i f)
+    up_to_kind i q = ⊎_elim (λ lt. let z = w.below i lt in omega arith) (λ g. let z = v.run.kinds i g q in omega arith) (cases_lt i f)
 
     -- the frames of kind k before i are those from f on
     count_run : (i : ℕ) → f ≤ i → i ≤ r → count_to T k i + f ≡ i
@@ -110,12 +108,12 @@ module _ (T : List ℕ) where
     order_run : (i : ℕ) → f ≤ i → i < r → order_at T i ≡ true
     order_run i a b =
         ⊎_elim (λ lt. first_order i (omega arith))
-        (λ g. let z = up_to_kind (i - 1) (omega arith) in let y = v.run.kinds i a b in later_order i g (omega arith)) (split i 1)
+        (λ g. let z = up_to_kind (i - 1) (omega arith) in let y = v.run.kinds i a b in later_order i g (omega arith)) (cases_lt i 1)
 
     stop_run : r < frames_of T → kind_at T r < k + 1 → form_ok T r ≡ false
     stop_run lt b =
         ⊎_elim (λ low. ⊎_elim (λ e. same e low) (λ g. no_order r (falls r (omega arith) (let z = v.run.kinds (r - 1) (omega arith) (omega arith) in omega arith))) (eq-or-lt_of_le v.run.from))
-        (⊎_elim (λ e. ⊎_elim (λ few. no_body r (v.stopped lt few e)) (λ many. no_room r k e (let z = count_run r v.run.from (omega arith) in omega arith)) (split r (f + (form_of k).most)))
+        (⊎_elim (λ e. ⊎_elim (λ few. no_body r (v.stopped lt few e)) (λ many. no_room r k e (let z = count_run r v.run.from (omega arith) in omega arith)) (cases_lt r (f + (form_of k).most)))
         (λ high. absurd (omega arith))) (tri (kind_at T r) k)
       where
         same : f ≡ r → kind_at T r < k → form_ok T r ≡ false
@@ -128,7 +126,7 @@ module _ (T : List ℕ) where
           within = v.run.within;
           formed = λ i q.
               ⊎_elim (λ lt. w.formed i lt)
-              (λ g. has_form i k (v.run.kinds i g q) l h (order_run i g q) (let z = count_run i g (omega arith) in let y = v.run.few in omega arith) (v.run.bodies i g q)) (split i f);
+              (λ g. has_form i k (v.run.kinds i g q) l h (order_run i g q) (let z = count_run i g (omega arith) in let y = v.run.few in omega arith) (v.run.bodies i g q)) (cases_lt i f);
           below = λ i q. let z = up_to_kind i q in omega arith;
           stopped = stop_run;
           starts = λ j q.
@@ -143,7 +141,7 @@ module _ (T : List ℕ) where
       (record {
         within = w.within;
         before = w.formed;
-        stopped = λ l. ⊎_elim (λ lt. w.stopped l lt) (λ g. past_kinds f (omega arith)) (split (kind_at T f) 12);
+        stopped = λ l. ⊎_elim (λ lt. w.stopped l lt) (λ g. past_kinds f (omega arith)) (cases_lt (kind_at T f) 12);
       })
 
   pub walked_starts : (from : List ℕ) (f : ℕ) → Walked T from 12 f → StartsTo T f from

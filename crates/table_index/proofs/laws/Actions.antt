@@ -7,7 +7,7 @@ use Rattle.rules_tables.specs.Ids.{first_action, actions}
 use Rattle.rules_tables.specs.Owned.{any, nth}
 use Rattle.rules_tables.proofs.laws.Owned.{nth_belongs}
 use Rattle.rules_tables.specs.Actions.{action_of}
-use Rattle.table_parts.specs.declared.Found.TheVariants.{One, Missing}
+use Rattle.std.specs.Prelude.{Some, None}
 use Rattle.table_parts.specs.Found.{found_of}
 use Rattle.table_index.specs.Leads.{or_end}
 use Rattle.table_index.specs.Index.{Follows}
@@ -21,14 +21,14 @@ module _ (T : List ℕ) (S : Shape) (q k : ℕ) where
 
   module _ {l j m : ℕ} (some : k ≡ 0 → ⊥) (before : l ≡ k - 1) (passed : m ≤ l) (led : j ≡ or_end (actions S) (nth T (first_action S) (actions S) any q m)) where
     -- the chain has ended before it
-    pub action_past : actions S ≤ j → Missing ≡ found_of (action_of T S q k)
+    pub action_past : actions S ≤ j → None ≡ found_of (action_of T S q k)
     action_past h =
         let none = nth_past T (first_action S) (actions S) any q m led h in
         let e : m + (l - m) ≡ l = omega arith in
         sym (ap found_of (action_nth some before (rw e at (nth_later T (first_action S) (actions S) any q m (l - m) none))))
 
     -- it is where the chain has come to
-    pub action_at : j < actions S → m ≡ l → One j ≡ found_of (action_of T S q k)
+    pub action_at : j < actions S → m ≡ l → Some j ≡ found_of (action_of T S q k)
     action_at h e = sym (ap found_of (action_nth some (e ∙ before) (nth_at T (first_action S) (actions S) any q m led h)))
 
 -- the chain goes on to the next one

@@ -1,6 +1,8 @@
 -- How chains grow, frame by frame from the last to the first, and that they stand while their entries do.
-use Rattle.std.specs.Prelude.{◌≡◌, refl, Bool, true, false, ◌⊎◌, length, get_or}
+use Rattle.std.specs.Prelude.{◌≡◌, refl, Bool, true, false, ◌⊎◌, ◌-◌, ◌++◌, length, get_or, take, drop, replicate}
 use Rattle.std.proofs.Common.{sym, ap, ◌∙◌, inl, inr, eq-or-lt_of_le, arith, length-set, get_or-set_same, get_or-set_other, eq-eqb, ne_eqb}
+use Rattle.std.proofs.lemmas.List.{length-append, length-drop, length-take-le, length-replicate, get_or-append_right, get_or_append_left, get_or-replicate, get_or-take, get_or-drop}
+use borrow.Rule.Slice.PartMut.{put_mid}
 use Rattle.std.proofs.Math.Path.{subst}
 use mathlib.Core.List.{List}
 use Rattle.std.proofs.Math.Logic.{⊎_elim}
@@ -111,6 +113,37 @@ filled_more base i x ix ix' l w =
           (λ y. ⊎_elim (λ e. rw e (get_or-set_same ix' (base + i) x 0 l)) (λ g. absurd (omega arith)) y) (tri k i);
       kept = λ k u. get_or-set_other ix' (base + i) k x 0 (λ z. ⊎_elim (λ h. omega arith) (λ h. omega arith) u) ∙ w.kept k (⊎_elim (λ h. inl h) (λ h. inr (omega arith)) u);
     }
+
+-- and at once, as a part of a list that is filled
+pub filled_replicate : (base k n x : ℕ) (ix ys : List ℕ) → base + n ≤ length ix → k ≡ n → ys ≡ replicate k x → Filled base n x ix (put_mid base k ix ys)
+filled_replicate base k n x ix ys h e q =
+    record {
+      long = rw (length-append, length-append, length-drop, length-drop, front, part) (omega arith);
+      filled = λ i u. rw (get_or-append_right (take base ix) _ base (base + i) 0 front (omega arith)) (inside i u (omega arith));
+      kept = λ i u. ⊎_elim (λ l. get_or_append_left (take base ix) _ 0 i (omega (arith, front)) ∙ get_or-take base ix i 0 l) (behind i) u;
+    }
+  where
+    front : length (take base ix) ≡ base
+    front = length-take-le base ix (omega arith)
+
+    same : ys ≡ replicate n x
+    same = rw e at q
+
+    part : length ys ≡ n
+    part = rw same (length-replicate {A = ℕ} n x)
+
+    rest : List ℕ
+    rest = drop k (drop base ix)
+
+    inside : (i : ℕ) → i < n → {j : ℕ} → j ≡ i → get_or (ys ++ rest) j 0 ≡ x
+    inside i u p = rw p (get_or_append_left ys rest 0 i (omega (arith, part)) ∙ rw same (get_or-replicate n i x 0 u))
+
+    behind : (i : ℕ) → base + n ≤ i → get_or (take base ix ++ (ys ++ rest)) i 0 ≡ get_or ix i 0
+    behind i l =
+        get_or-append_right (take base ix) (ys ++ rest) base i 0 front (omega arith)
+        ∙ get_or-append_right ys rest n (i - base) 0 part (omega arith)
+        ∙ get_or-drop k (drop base ix) (i - base - n) 0 ∙ get_or-drop base ix (k + (i - base - n)) 0
+        ∙ ap (λ (j : ℕ). get_or ix j 0) (omega arith)
 
 -- ---- what code leaves
 pub link_is : (ix : List ℕ) (first base j : ℕ) {x y : ℕ} → x ≡ y → set (set ix (first + j) (get_or ix (base + x) 0)) (base + x) j ≡ linked first base y j ix

@@ -6,7 +6,4 @@ use Prim.Native.Nat.{◌≤◌, ◌-◌}
 use Rattle.table_parts.proofs.nth.Given as goal
 
 abbrev pub invariant-loop-j : goal.invariant-loop-j
-invariant-loop-j l = (l.j ≤ l.n) × (l.c ≡ count_if (belongs l.t l.first l.g l.x) l.j) × (first_below (is_nth l.t l.first l.g l.x l.k) l.n ≡ first_from (is_nth l.t l.first l.g l.x l.k) l.j (l.n - l.j)) × (l.c ≤ l.j)
-
-abbrev pub decreases-loop-j : goal.decreases-loop-j
-decreases-loop-j l = l.n - l.j
+invariant-loop-j l = (l.c ≡ count_if (belongs l.t l.first l.g l.x) l.j) × (first_below (is_nth l.t l.first l.g l.x l.k) l.n ≡ first_from (is_nth l.t l.first l.g l.x l.k) l.j (l.n - l.j)) × (l.c ≤ l.j)

@@ -1,5 +1,4 @@
 -- Each return is the definition with the flag's test and the joined event put in. The event whose owner is read exists, since the join passed.
-use borrow.Author.Rules.{rules}
 use Rattle.rules_tables.specs.Reference.{associates}
 use Rattle.table_references.proofs.Owned.{joined_exists}
 use borrow.Author.Tests.{eq-eqb, ne_eqb}
@@ -11,7 +10,7 @@ unfolding associates
 returns-then-flag-eq-OF_INPUT c = rw (← c.flag.ensures.0, eq-eqb _ _ c.if-flag-eq-OF_INPUT.true) c.joins.ensures
 
 pub owner-requires : goal.owner-requires
-owner-requires c = (c.requires.0, search rules, rw c.field.ensures.0 (joined_exists _ _ 3 1 (sym c.joins-2.ensures ∙ c.if-joins.true)), search rules)
+owner-requires c = rw c.field.ensures.0 (joined_exists _ _ 3 1 (sym c.joins-2.ensures ∙ c.if-joins.true))
 
 pub returns-then-joins : goal.returns-then-joins
 unfolding associates

@@ -7,6 +7,6 @@ pub returns-then-flag-ne-BASIC : goal.returns-then-flag-ne-BASIC
 unfolding initial_state
 returns-then-flag-ne-BASIC c = rw (← c.flag.ensures.0, ne_eqb _ _ c.if-flag-ne-BASIC.true)
 
-pub returns : goal.returns
+pub returns-else-flag-ne-BASIC : goal.returns-else-flag-ne-BASIC
 unfolding initial_state
-returns c = rw (← c.flag.ensures.0, eq-eqb _ _ c.if-flag-ne-BASIC.false, ← c.field.ensures.0, c.requires.2) c.owned.ensures
+returns-else-flag-ne-BASIC c = rw (← c.flag.ensures.0, eq-eqb _ _ c.if-flag-ne-BASIC.false, ← c.field.ensures.0, c.requires.1) c.owned.ensures

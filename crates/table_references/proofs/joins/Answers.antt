@@ -1,9 +1,7 @@
 -- Each return is the definition with the tests passed so far put in. Event and variable exist where their frames are read.
-use borrow.Author.Rules.{rules}
 use Rattle.rules_tables.specs.Place.{owned_by}
 use Rattle.rules_tables.specs.Reference.{joins}
-use borrow.Author.Tests.{ltb-true, eq-eqb, ne_eqb}
-use mathlib.Core.Path.{sym, ◌∙◌}
+use borrow.Author.Tests.{eq-eqb, ne_eqb}
 use Rattle.table_references.proofs.joins.Goals as goal
 
 pub returns-then-not-exists : goal.returns-then-not-exists
@@ -13,12 +11,6 @@ returns-then-not-exists c = rw (← c.field-event.ensures.0, ← c.exists.ensure
 pub returns-then-not-exists-2 : goal.returns-then-not-exists-2
 unfolding joins owned_by
 returns-then-not-exists-2 c = rw (← c.field-event.ensures.0, ← c.field-v.ensures.0, ← c.exists.ensures, c.if-not-exists.false, ← c.exists-2.ensures, c.if-not-exists-2.true)
-
-pub place-p-requires : goal.place-p-requires
-place-p-requires c = (c.requires.0, search rules, ltb-true _ _ (sym c.exists-2.ensures ∙ c.if-not-exists-2.false), c.requires.3)
-
-pub owner-requires : goal.owner-requires
-owner-requires c = (c.requires.0, c.requires.2, ltb-true _ _ (sym c.exists.ensures ∙ c.if-not-exists.false), c.requires.3)
 
 pub returns-then-field-owner : goal.returns-then-field-owner
 unfolding joins owned_by

@@ -1,9 +1,11 @@
 -- Laws of what is known of the steps' results: how it serves the next action, and how it grows by one.
-use Rattle.std.specs.Prelude.{◌≡◌, List, ℕ, ◌+◌, ◌-◌, ◌≤◌, ◌<◌, eqb, leb}
+use Rattle.std.specs.Prelude.{◌≡◌, refl, List, ℕ, ◌+◌, ◌-◌, ◌≤◌, ◌<◌, eqb, leb}
 use Rattle.std.proofs.Math.Bool.{true}
 use Rattle.std.proofs.Common.{⊎_elim}
 use native.Mathlib.Omega.{arith}
 use borrow.Author.Tests.{ltb-true, ne_eqb}
+use Rattle.std.specs.List.{list_all, range_with_len}
+use Rattle.table_frames.proofs.laws.Ranges.{all_between}
 use Rattle.rules_walks.specs.Pick.{both}
 use Rattle.rules_walks.proofs.laws.Pick.{both3, both_right, either_else, tri}
 use Rattle.rules_walks.specs.All.{all_to}
@@ -14,8 +16,14 @@ use Rattle.rules_tables.specs.Place.{count_of, exists, owner_of, owned_by}
 use Rattle.rules_tables.specs.Reference.{maybe_owned, result_of, steps_of, acts, refers_as, refers_ok}
 use Rattle.table_references.specs.declared.Run.{Run}
 use Rattle.table_references.specs.Known.{Known, Reaches}
+use Rattle.table_references.proofs.Coded.{result_at}
 
 module _ (T : List ℕ) where
+  -- the known results and those from there on
+  pub results_from : (b el m n : ℕ) → all_to (result_of T b el) m ≡ true → list_all (result_at T b el) (range_with_len m (n - m)) ≡ all_to (result_of T b el) n
+  unfolding result_of
+  results_from b el m n h = all_between (result_at T b el) (result_of T b el) (n - m) m n refl (λ i l. all_at (result_of T b el) m i l h) (λ i l k. refl)
+
   -- the result of step i, as that of the first step from there on, and back
   result_of_lem : (b el i : ℕ) → owned_by T variable (owner_of T step (b + i)) el ≡ true → result_of T b el i ≡ true
   unfolding result_of
@@ -30,8 +38,8 @@ module _ (T : List ℕ) where
       all_intro (result_of T b el) r
       (λ i l. let p : 0 < r = omega arith in result_of_lem b el i (rw (v.element p) at (w.own (b + i) (let q = v.from p in omega arith) (let q = v.to p in omega arith))))
 
-  pub known_none : (el : ℕ) → Known T (record { element = el; first = 0; end = 0 })
-  known_none el = record { upward = omega arith; own = λ i a b. absurd (omega arith) }
+  pub known_none : (run : Run) → run.first ≡ 0 → run.end ≡ 0 → Known T run
+  known_none run a b = record { upward = omega arith; own = λ i p q. absurd (omega arith) }
 
   -- an action's own steps
   pub known_new : (b el n e : ℕ) → e ≡ b + n → all_to (result_of T b el) n ≡ true → Known T (record { element = el; first = b; end = e })

@@ -7,6 +7,6 @@ pub returns-then-id-eq-NONE : goal.returns-then-id-eq-NONE
 unfolding maybe_owned
 returns-then-id-eq-NONE c = rw (eq-eqb _ _ c.if-id-eq-NONE.true)
 
-pub returns : goal.returns
+pub returns-else-id-eq-NONE : goal.returns-else-id-eq-NONE
 unfolding maybe_owned
-returns c = rw (ne_eqb _ _ c.if-id-eq-NONE.false) c.owned.ensures
+returns-else-id-eq-NONE c = rw (ne_eqb _ _ c.if-id-eq-NONE.false) c.owned.ensures

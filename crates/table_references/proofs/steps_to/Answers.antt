@@ -1,16 +1,11 @@
 -- Each return is the definition with the tests passed so far put in, in the order of the code. The result exists where its frame is read.
-use borrow.Author.Rules.{rules}
 use Rattle.rules_tables.specs.Reference.{steps_to}
-use borrow.Author.Tests.{ltb-true, eq-eqb, ne_eqb}
-use mathlib.Core.Path.{sym, ◌∙◌}
+use borrow.Author.Tests.{eq-eqb, ne_eqb}
 use Rattle.table_references.proofs.steps_to.Goals as goal
 
 pub returns-then-not-exists : goal.returns-then-not-exists
 unfolding steps_to
 returns-then-not-exists c = rw (← c.field-v.ensures.0, ← c.exists.ensures, c.if-not-exists.true)
-
-pub place-p-requires : goal.place-p-requires
-place-p-requires c = (c.requires.0, search rules, ltb-true _ _ (sym c.exists.ensures ∙ c.if-not-exists.false), c.requires.3)
 
 pub returns-then-flag-eq-INPUT : goal.returns-then-flag-eq-INPUT
 unfolding steps_to

@@ -1,16 +1,10 @@
 -- Each return is the definition with the tests passed so far put in, in the order of the code. The first state exists where its owner is read.
-use borrow.Author.Rules.{rules}
 use Rattle.rules_tables.specs.Reference.{transits}
-use borrow.Author.Tests.{ltb-true}
-use mathlib.Core.Path.{sym, ◌∙◌}
 use Rattle.table_references.proofs.transits.Goals as goal
 
 pub returns-then-not-exists : goal.returns-then-not-exists
 unfolding transits
 returns-then-not-exists c = rw (← c.field-from.ensures.0, ← c.exists.ensures, c.if-not-exists.true)
-
-pub owner-el-requires : goal.owner-el-requires
-owner-el-requires c = (c.requires.0, search rules, ltb-true _ _ (sym c.exists.ensures ∙ c.if-not-exists.false), search rules)
 
 pub returns-then-not-owned : goal.returns-then-not-owned
 unfolding transits

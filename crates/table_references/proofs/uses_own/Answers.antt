@@ -5,8 +5,8 @@ use Rattle.table_references.proofs.uses_own.Goals as goal
 
 pub returns-then-u-j : goal.returns-then-u-j
 unfolding uses_own
-returns-then-u-j c = rw (← c.requires.3, le-leb _ _ c.if-u-j.true)
+returns-then-u-j c = rw (← c.requires.2, le-leb _ _ c.if-u-j.true)
 
-pub returns : goal.returns
+pub returns-else-u-j : goal.returns-else-u-j
 unfolding uses_own
-returns c = rw (← c.requires.3, lt-leb _ _ c.if-u-j.false, ← c.field.ensures.0) c.owned.ensures
+returns-else-u-j c = rw (← c.requires.2, lt-leb _ _ c.if-u-j.false, ← c.field.ensures.0) c.owned.ensures

@@ -1,5 +1,5 @@
 -- Laws of the views: the spans of kinds and of actions' steps, and that they lie in the table.
-use Rattle.std.specs.Prelude.{◌≡◌, List, eqb, ℕ, ◌+◌, ◌-◌, ◌*◌, ◌≤◌, ◌<◌, take, drop}
+use Rattle.std.specs.Prelude.{◌≡◌, List, eqb, ℕ, ◌+◌, ◌-◌, ◌*◌, ◌≤◌, ◌<◌, take, drop, Ok, Err}
 use Rattle.std.proofs.Common.{sym, ap, ◌∙◌, arith}
 use Rattle.std.specs.Borrow.{Bor}
 use borrow.Author.Tests.{le-leb, lt-leb, lt-ltb, le-ltb, eq-eqb, ne_eqb}
@@ -9,7 +9,7 @@ use Rattle.rules_tables.specs.Frame.{frames_of, field_at}
 use Rattle.rules_tables.specs.Place.{start_of, count_of, place}
 use Rattle.rules_tables.proofs.laws.Places.{below_next, below_le}
 use Rattle.rules_tables.specs.declared.Shape.{Shape}
-use Rattle.rules_tables.specs.declared.Judged.TheVariants.{Sound, Refused}
+use Rattle.rules_tables.specs.declared.Refusal.{Refusal}
 use Rattle.rules_tables.specs.declared.Span.{Span}
 use Rattle.rules_tables.specs.Judge.{accepted, judge, judged, shape_of}
 use Rattle.rules_tables.proofs.laws.Judge.{was_sound, was_refused}
@@ -23,9 +23,9 @@ module _ (T : List ℕ) where
   nothing : (s : Span) → span 0 0 ≡ s → Within T s (span 0 0)
   nothing s e = record { same = e; inside = omega arith }
 
-  pub kind_refused : (k q f : ℕ) → judged T ≡ Refused q f → Within T (kind_span T k) (span 0 0)
+  pub kind_refused : (k : ℕ) (r : Refusal) → judged T ≡ Err r → Within T (kind_span T k) (span 0 0)
   unfolding kind_span
-  kind_refused k q f e = nothing (kind_span T k) (rw (was_refused T q f e))
+  kind_refused k r e = nothing (kind_span T k) (rw (was_refused T r e))
 
   pub kind_low : (k : ℕ) → k < 1 → Within T (kind_span T k) (span 0 0)
   unfolding kind_span
@@ -35,12 +35,12 @@ module _ (T : List ℕ) where
   unfolding kind_span
   kind_high k l = nothing (kind_span T k) (rw (lt-leb k 11 l) (simp both_false))
 
-  pub step_refused : (id q f : ℕ) → judged T ≡ Refused q f → Within T (step_span T id) (span 0 0)
+  pub step_refused : (id : ℕ) (r : Refusal) → judged T ≡ Err r → Within T (step_span T id) (span 0 0)
   unfolding step_span
-  step_refused id q f e = nothing (step_span T id) (rw (was_refused T q f e))
+  step_refused id r e = nothing (step_span T id) (rw (was_refused T r e))
 
   -- ---- of an accepted table, of this shape
-  module _ (s : Shape) (e : judged T ≡ Sound s) where
+  module _ (s : Shape) (e : judged T ≡ Ok s) where
     verdict : judge T ≡ accepted
     verdict = (was_sound T s e).0
 

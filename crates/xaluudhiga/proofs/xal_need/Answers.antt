@@ -7,7 +7,7 @@ pub returns-in_default : goal.returns-in_default
 returns-in_default c = need_faulty _ c.check-judged.ensures.0 c.in_default.is
 
 pub need-requires : goal.need-requires
-need-requires c = small _ _ (ready _ c.check-judged.ensures.0 c.in-Sound.is)
+need-requires c = small _ _ (ready _ c.check-judged.ensures.0 c.in-Ok.is)
 
 pub returns : goal.returns
-returns c = need_sound _ c.check-judged.ensures.0 c.in-Sound.is c.need.ensures
+returns c = need_sound _ c.check-judged.ensures.0 c.in-Ok.is c.need.ensures

@@ -4,7 +4,7 @@ use Rattle.calls_run.proofs.Turns.{timed_kept}
 use Rattle.calls_run.proofs.calls.advance_by.Goals as goal
 
 pub expire_all-requires : goal.expire_all-requires
-expire_all-requires c = (c.requires.0, c.requires.1, c.requires.2, timed_kept c.args.t.now _ _ _ c.requires.3 c.put_time.ensures)
+expire_all-requires c = (c.requires.0, timed_kept c.args.ix.now.net.table.now _ _ _ c.requires.1 c.put_time.ensures)
 
 pub returns : goal.returns
 unfolding advanced

@@ -1,15 +1,6 @@
 -- `advance_to` meets its contract: now alone where nothing is due by then, else all of it.
-use Rattle.rules_walks.specs.Choose.{choose}
-use Rattle.rules_walks.proofs.laws.Pick.{clash}
 use Rattle.calls_run.proofs.Turns.{nothing_due}
 use Rattle.calls_run.proofs.calls.advance_to.Goals as goal
 
 pub returns-then-nothing_due : goal.returns-then-nothing_due
-returns-then-nothing_due c = nothing_due _ _ _ _ c.requires.3 c.nothing_due.ensures c.if-nothing_due.true c.put_time.ensures
-
-pub come-requires : goal.come-requires
-come-requires c = (c.requires.0, c.requires.1, c.requires.2, λ e. clash e, λ _. c.requires.3)
-
-pub returns : goal.returns
-unfolding choose
-returns c = c.come.ensures
+returns-then-nothing_due c = nothing_due _ _ _ _ c.requires.2 c.nothing_due.ensures c.if-nothing_due.true c.put_time.ensures

@@ -3,7 +3,7 @@ use Rattle.calls_run.proofs.Turns.{source_voice}
 use Rattle.calls_run.proofs.calls.arrive_by.Goals as goal
 
 pub fire_by-requires : goal.fire_by-requires
-fire_by-requires c = (c.requires.0, c.requires.1, source_voice _ _ _ c.requires.2)
+fire_by-requires c = source_voice _ _ _ c.requires.0
 
 pub returns : goal.returns
 unfolding arrived

@@ -7,10 +7,10 @@ pub returns-in_default : goal.returns-in_default
 returns-in_default c = output_missing _ _ _ _ _ _ c.outputs.ensures c.nth.ensures c.in_default.is c.put_due.ensures
 
 pub fire-requires : goal.fire-requires
-fire-requires c = (c.requires.0, c.requires.2, output_known _ _ _ _ _ c.outputs.ensures c.nth.ensures c.in-One.is)
+fire-requires c = output_known _ _ _ _ _ c.outputs.ensures c.nth.ensures c.in-Some.is
 
 pub put_due-requires-2 : goal.put_due-requires-2
-put_due-requires-2 c = (search rules, c.requires.1, fired_kept _ _ _ _ _ c.requires.3 c.requires.4 c.fire.ensures)
+put_due-requires-2 c = (search rules, c.requires.0, fired_kept _ _ _ _ _ c.requires.1 c.requires.2 c.fire.ensures)
 
 pub returns : goal.returns
-returns c = output_fired _ _ _ _ _ _ c.outputs.ensures c.nth.ensures _ c.in-One.is c.fire.ensures c.put_due-2.ensures
+returns c = output_fired _ _ _ _ _ _ c.outputs.ensures c.nth.ensures _ c.in-Some.is c.fire.ensures c.put_due-2.ensures

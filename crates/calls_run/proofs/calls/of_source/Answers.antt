@@ -7,7 +7,7 @@ use Rattle.moves_take.proofs.laws.Known.{at_frame}
 use Rattle.calls_run.proofs.calls.of_source.Goals as goal
 
 pub flag-requires : goal.flag-requires
-flag-requires c = let h : c.args.o < _ = rw c.outputs.ensures at c.if-o-outputs.true in let k = c.requires.output_element c.args.o h in let g = c.requires in omega (arith, at_frame _ 0 c.output_frame.ensures.is c.field.ensures.0)
+flag-requires c = let h : c.args.o < _ = rw c.outputs.ensures at c.if-o-outputs.true in let k = c.args.net.now.good.output_element c.args.o h in let g = c.args.net.now.good in omega (arith, at_frame _ 0 c.output_frame.ensures.is c.field.ensures.0)
 
 pub returns-then-o-outputs : goal.returns-then-o-outputs
 unfolding of_source

@@ -7,6 +7,6 @@ pub returns-then-to-time : goal.returns-then-to-time
 unfolding wrong_time
 returns-then-to-time c = rw (← c.time.ensures, lt-ltb _ _ c.if-to-time.true)
 
-pub returns : goal.returns
+pub returns-else-to-time : goal.returns-else-to-time
 unfolding wrong_time
-returns c = rw (← c.time.ensures, le-ltb _ _ c.if-to-time.false)
+returns-else-to-time c = rw (← c.time.ensures, le-ltb _ _ c.if-to-time.false)

@@ -5,9 +5,11 @@ use Rattle.calls_run.proofs.Going.{Going}
 use Rattle.calls_run.proofs.Tracing.{Tracked}
 use Rattle.calls_run.proofs.running.make_moves.Given as goal
 
-abbrev pub invariant-loop-shape : goal.invariant-loop-shape
-invariant-loop-shape l =
-    Going l.t l.shape l.time l.budget l.initial.store l.initial.out l.store l.out l.n l.at l.untrue × Tracked l.tracing l.t l.shape l.time l.initial.store l.initial.trace l.trace l.n l.p × (length l.store ≡ length l.initial.store)
+abbrev pub invariant-loop-stop : goal.invariant-loop-stop
+invariant-loop-stop l =
+    Going l.ix.net.table.now l.ix.net.shape l.time l.budget l.initial.store l.initial.out l.store l.out l.n l.so_far.place l.so_far.untrue
+    × Tracked l.tracing l.ix.net.table.now l.ix.net.shape l.time l.initial.store l.initial.tape.bytes.now l.tape.bytes.now l.n l.tape.at
+    × (length l.store ≡ length l.initial.store) × (l.tape.bytes.ghost_name ≡ l.initial.tape.bytes.ghost_name)
 
-abbrev pub decreases-loop-shape : goal.decreases-loop-shape
-decreases-loop-shape l = l.budget - l.n
+abbrev pub decreases-loop-stop : goal.decreases-loop-stop
+decreases-loop-stop l = l.budget - l.n

@@ -1,10 +1,6 @@
 use mathlib.Core.Path.{◌≡◌}
-use Prim.Native.Nat.{◌-◌}
 use lib.ListN.{length}
 use Rattle.cases_main.proofs.ask.tables.Given as goal
 
 abbrev pub invariant-loop-i : goal.invariant-loop-i
 invariant-loop-i l = length l.t ≡ 768
-
-abbrev pub decreases-loop-i : goal.decreases-loop-i
-decreases-loop-i l = 768 - l.i

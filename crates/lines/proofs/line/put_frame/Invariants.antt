@@ -2,11 +2,7 @@ use Rattle.rules_sessions.specs.Line.{bytes_to}
 use lib.ListN.{length}
 use lib.Seq.{sets}
 use mathlib.Core.Path.{◌≡◌}
-use Prim.Native.Nat.{◌≤◌, ◌-◌}
 use Rattle.lines.proofs.line.put_frame.Given as goal
 
 abbrev pub invariant-loop-k : goal.invariant-loop-k
-invariant-loop-k l = (l.k ≤ 12) × (l.t ≡ sets l.initial.t l.at (bytes_to l.line l.k)) × (length l.t ≡ length l.initial.t)
-
-abbrev pub decreases-loop-k : goal.decreases-loop-k
-decreases-loop-k l = 12 - l.k
+invariant-loop-k l = (l.t ≡ sets l.initial.t l.at (bytes_to l.line l.k)) × (length l.t ≡ length l.initial.t)

@@ -3,7 +3,7 @@ use Rattle.moves_next.proofs.Turns.{stepped_on, stepped_untrue, step_runs}
 use Rattle.moves_next.proofs.act.step.Goals as goal
 
 pub put_stepped-requires : goal.put_stepped-requires
-put_stepped-requires c = (step_runs _ _ _ _ _ c.one_step-u.ensures.0 c.requires.4, c.requires.2)
+put_stepped-requires c = (step_runs _ _ _ _ _ c.one_step-u.ensures.0 c.requires.3, c.requires.1)
 
 pub returns : goal.returns
 returns c = (

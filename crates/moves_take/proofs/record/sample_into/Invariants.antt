@@ -3,19 +3,14 @@ use Rattle.rules_moves.specs.Take.{sample, samples}
 use lib.Seq.{sets}
 use mathlib.Core.List.{[]}
 use Rattle.rules_tables.specs.Ids.{first_association, associations}
-use Rattle.rules_tables.specs.Owned.{belongs}
 use Rattle.rules_tables.specs.Kind.{of_input}
 use Rattle.rules_walks.specs.Walk.{up_to}
-use Prim.Native.Nat.{◌≤◌, ◌<◌, ◌-◌, ◌+◌}
-use mathlib.Core.Bool.{true}
+use Rattle.table_index.specs.Walk.{Goes}
+use Prim.Native.Nat.{◌+◌}
 use lib.ListN.{length}
 use mathlib.Core.Path.{◌≡◌}
 use Rattle.moves_take.proofs.record.sample_into.Given as goal
 
 abbrev pub invariant-loop-j : goal.invariant-loop-j
-invariant-loop-j l = (l.j ≤ associations l.shape) × (l.store ≡ up_to (sample l.t l.shape l.i) l.j l.initial.store) × (length l.store ≡ length l.initial.store)
-    × (l.p ≡ l.at + length (up_to (value_of l.t l.shape (samples l.t l.shape l.i l.initial.store) l.i) l.j [])) × (l.out ≡ sets l.initial.out l.at (up_to (value_of l.t l.shape (samples l.t l.shape l.i l.initial.store) l.i) l.j [])) × (length l.out ≡ length l.initial.out)
-    × (l.j < associations l.shape → belongs l.t (first_association l.shape) of_input l.i l.j ≡ true)
-
-abbrev pub decreases-loop-j : goal.decreases-loop-j
-decreases-loop-j l = associations l.shape - l.j
+invariant-loop-j l = Goes l.ix.net.table.now (first_association l.ix.net.shape) (associations l.ix.net.shape) of_input l.i l.j-iterator × (l.store ≡ up_to (sample l.ix.net.table.now l.ix.net.shape l.i) l.j-iterator.at l.initial.store) × (length l.store ≡ length l.initial.store)
+    × (l.p ≡ l.at + length (up_to (value_of l.ix.net.table.now l.ix.net.shape (samples l.ix.net.table.now l.ix.net.shape l.i l.initial.store) l.i) l.j-iterator.at [])) × (l.out ≡ sets l.initial.out l.at (up_to (value_of l.ix.net.table.now l.ix.net.shape (samples l.ix.net.table.now l.ix.net.shape l.i l.initial.store) l.i) l.j-iterator.at [])) × (length l.out ≡ length l.initial.out)

@@ -9,11 +9,11 @@ use Rattle.moves_take.proofs.record.write_record.Goals as goal
 
 pub write_head-requires : goal.write_head-requires
 unfolding record_size
-write_head-requires c = let h = c.requires.3 in omega arith
+write_head-requires c = let h = c.requires.2 in omega arith
 
 pub sample_into-requires : goal.sample_into-requires
 unfolding record_size
-sample_into-requires c = (c.requires.0, let h = c.requires.3 in let e = simp length-sets at (ap length c.write_head.ensures) in omega arith, c.requires.4)
+sample_into-requires c = let h = c.requires.2 in let e = simp length-sets at (ap length c.write_head.ensures) in omega arith
 
 pub returns : goal.returns
 unfolding record_size

@@ -1,12 +1,13 @@
 -- `tell_emitted` meets its contract.
 use native.Mathlib.Omega.{arith}
 use mathlib.Core.Path.{sym}
-use Rattle.moves_tell.proofs.laws.Told.{told_same, room_same}
+use Rattle.moves_tell.proofs.laws.Told.{room_same}
+use Rattle.moves_tell.proofs.laws.Taped.{taped_same}
 use Rattle.moves_tell.proofs.Telling.{emitted_is}
 use Rattle.moves_tell.proofs.entry.tell_emitted.Goals as goal
 
-pub put_entry-requires : goal.put_entry-requires
-put_entry-requires c = (rw c.happened.ensures record { kind_fits = omega arith; block_fits = omega arith; id_fits = omega arith }, room_same (sym (emitted_is _ _ _ c.output_frame.ensures.is c.field-el.ensures.0 c.happened.ensures)) c.requires.2)
+pub put-requires : goal.put-requires
+put-requires c = (rw c.happened.ensures record { kind_fits = omega arith; block_fits = omega arith; id_fits = omega arith }, room_same (sym (emitted_is _ _ _ c.output_frame.ensures.is c.field-el.ensures.0 c.happened.ensures)) c.requires.1)
 
 pub returns : goal.returns
-returns c = told_same (emitted_is _ _ _ c.output_frame.ensures.is c.field-el.ensures.0 c.happened.ensures) c.put_entry.ensures
+returns c = taped_same (emitted_is _ _ _ c.output_frame.ensures.is c.field-el.ensures.0 c.happened.ensures) c.put.ensures

@@ -1,25 +1,23 @@
 -- `associates` meets its contract. The invariant: none of the associations passed joins the variable.
-use native.Mathlib.Omega.{arith}
+use Rattle.table_index.proofs.laws.Walk.{walk_given, walk_ended}
 use Rattle.moves_tell.proofs.laws.Taking.{seek_first, seek_hit, seek_more, seek_end}
 use Rattle.moves_tell.proofs.take.associates.Goals as goal
 
-pub first_association-j-requires : goal.first_association-j-requires
-first_association-j-requires c = (c.requires.1, omega arith)
-
 pub loop-j-init : goal.loop-j-init
-loop-j-init c = let l = c.first_association-j.ensures in (l.within, seek_first _ _ _ _ l, l.met)
+loop-j-init c = let l = c.associations_of-j-items.ensures in rw c.into_iter-j-iterator.ensures.into_iter_gives (l.goes, seek_first _ _ _ _ l.leads)
 
-pub next_association-j-requires : goal.next_association-j-requires
-next_association-j-requires c = (c.requires.1, omega arith)
-
-pub loop-j-smaller : goal.loop-j-smaller
-loop-j-smaller c = let h = c.loop-j.invariant.2 (omega arith) in let q = ((c.next_association-j.ensures.under 0 (omega arith)).next _ h).from in omega arith
+pub association_frame-requires : goal.association_frame-requires
+association_frame-requires c = let w = walk_given _ _ _ _ _ _ c.loop-j.invariant.0 c.in-Some.ensures.steps in rw w.stood w.below
 
 pub loop-j-preserved : goal.loop-j-preserved
-loop-j-preserved c = let h = c.loop-j.invariant.2 (omega arith) in let w = (c.next_association-j.ensures.under 0 (omega arith)).next _ h in (w.within, seek_more _ _ _ _ _ h c.association_frame.ensures.is c.field.ensures.0 c.if-field-v.false w c.loop-j.invariant.1, w.met)
-
-pub returns-then-n-j : goal.returns-then-n-j
-returns-then-n-j c = seek_end _ _ _ _ (let l = c.loop-j.invariant.0 in omega arith) c.loop-j.invariant.1
+loop-j-preserved c =
+    let w = walk_given _ _ _ _ _ _ c.loop-j.invariant.0 c.in-Some.ensures.steps in
+    (w.goes, seek_more _ _ _ _ _ w.met (rw w.stood at c.association_frame.ensures.is) c.field.ensures.0 c.if-field-v.false w.leads c.loop-j.invariant.1)
 
 pub returns-then-field-v : goal.returns-then-field-v
-returns-then-field-v c = seek_hit _ _ _ _ _ (c.loop-j.invariant.2 (omega arith)) c.association_frame.ensures.is c.field.ensures.0 (omega arith) c.if-field-v.true
+returns-then-field-v c =
+    let w = walk_given _ _ _ _ _ _ c.loop-j.invariant.0 c.in-Some.ensures.steps in
+    seek_hit _ _ _ _ _ w.met (rw w.stood at c.association_frame.ensures.is) c.field.ensures.0 w.below c.if-field-v.true
+
+pub returns : goal.returns
+returns c = seek_end _ _ _ _ (walk_ended _ _ _ _ _ _ c.loop-j.invariant.0 c.in-None.ensures.steps) c.loop-j.invariant.1

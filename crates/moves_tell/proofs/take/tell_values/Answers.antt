@@ -1,25 +1,34 @@
 -- `tell_values` meets its contract: inputs, then an interface's outputs.
-use mathlib.Core.Path.{sym}
+use mathlib.Core.Path.{sym, ◌∙◌}
 use Rattle.moves_tell.specs.Before.{take_entries}
-use Rattle.moves_tell.proofs.laws.Told.{room_first, room_rest, room_same, told_then, told_same}
+use Rattle.moves_tell.proofs.laws.Told.{room_first, room_same}
+use Rattle.moves_tell.proofs.laws.Taped.{taped_same, taped_then, space_rest}
 use Rattle.moves_tell.proofs.laws.Taking.{element_in, plain_values, interface_values}
+use Rattle.moves_tell.proofs.laws.Brought.{all_sampled, all_passed}
 use Rattle.moves_tell.proofs.take.tell_values.Goals as goal
 
-pub tell_inputs-p-requires : goal.tell_inputs-p-requires
+pub tell_brought-requires : goal.tell_brought-requires
 unfolding take_entries
-tell_inputs-p-requires c = (c.requires.0, c.requires.1, c.requires.2, c.requires.4, room_first _ _ _ _ c.requires.3, c.requires.5)
+tell_brought-requires c = (c.requires.0, c.requires.2, room_same (sym (all_sampled _ _ c.requires.0 _ _ c.requires.2 _)) (room_first _ _ _ _ c.requires.3), c.requires.4)
 
 pub flag-requires : goal.flag-requires
 flag-requires c = (element_in _ _ _ c.requires.0.is_lawful.is_good c.requires.1 c.requires.2).1
 
-pub returns-then-flag-ne-INTERFACE : goal.returns-then-flag-ne-INTERFACE
+pub tell_brought-requires-then-flag-eq-INTERFACE : goal.tell_brought-requires-then-flag-eq-INTERFACE
 unfolding take_entries
-returns-then-flag-ne-INTERFACE c = told_same (sym (plain_values _ _ _ _ c.requires.2 c.flag.ensures.0 c.if-flag-ne-INTERFACE.true _)) c.tell_inputs-p.ensures
+tell_brought-requires-then-flag-eq-INTERFACE c =
+    let d = taped_same (all_sampled _ _ c.requires.0 _ _ c.requires.2 _) c.tell_brought.ensures in
+    let e = interface_values _ _ _ _ c.requires.2 c.flag.ensures.0 c.if-flag-eq-INTERFACE.true ∙ sym (all_passed _ _ c.requires.0 _ _ c.requires.2 _) in
+    (c.requires.0, c.requires.2, room_same e (space_rest _ _ _ c.requires.3 d), c.requires.4)
 
-pub tell_outputs-requires : goal.tell_outputs-requires
+pub returns-then-flag-eq-INTERFACE : goal.returns-then-flag-eq-INTERFACE
 unfolding take_entries
-tell_outputs-requires c = (c.requires.0, c.requires.1, c.requires.2, c.requires.4, room_same (interface_values _ _ _ _ c.requires.2 c.flag.ensures.0 c.if-flag-ne-INTERFACE.false) (room_rest _ _ _ _ c.requires.3 c.tell_inputs-p.ensures), c.requires.5)
+returns-then-flag-eq-INTERFACE c =
+    let d = taped_same (all_sampled _ _ c.requires.0 _ _ c.requires.2 _) c.tell_brought.ensures in
+    let e = all_passed _ _ c.requires.0 _ _ c.requires.2 _ ∙ sym (interface_values _ _ _ _ c.requires.2 c.flag.ensures.0 c.if-flag-eq-INTERFACE.true) in
+    taped_then _ _ _ d (taped_same e c.tell_brought-then-flag-eq-INTERFACE.ensures)
 
-pub returns : goal.returns
+pub returns-else-flag-eq-INTERFACE : goal.returns-else-flag-eq-INTERFACE
 unfolding take_entries
-returns c = told_then _ _ _ _ c.tell_inputs-p.ensures (told_same (sym (interface_values _ _ _ _ c.requires.2 c.flag.ensures.0 c.if-flag-ne-INTERFACE.false)) c.tell_outputs.ensures)
+returns-else-flag-eq-INTERFACE c =
+    taped_same (all_sampled _ _ c.requires.0 _ _ c.requires.2 _ ∙ sym (plain_values _ _ _ _ c.requires.2 c.flag.ensures.0 c.if-flag-eq-INTERFACE.false _)) c.tell_brought.ensures

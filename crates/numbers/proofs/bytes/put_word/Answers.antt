@@ -1,14 +1,12 @@
--- `number::bytes::put_word` meets its contract: the two halves are written one after the other (`and_then_lem`).
-use Prim.Native.Nat.{◌+◌, ◌/◌, ◌%◌}
-use mathlib.Core.Path.{refl}
-use Rattle.rules_numbers.proofs.laws.Sets.{and_then_lem}
+-- `bytes::put_word` meets its contract: the library's bytes are those of the rules (`word_told`), and what is copied is a run of stores (`put_run`).
+use native.Mathlib.Omega.{arith}
+use mathlib.Core.Path.{◌∙◌}
 use Rattle.rules_numbers.specs.Bytes.{half_bytes, word_bytes}
+use Rattle.numbers.proofs.Runs.{word_told, put_run}
 use Rattle.numbers.proofs.bytes.put_word.Goals as goal
 
 pub returns : goal.returns
-unfolding word_bytes half_bytes
+unfolding half_bytes word_bytes
 returns c =
-    let second = c in
-    let first = second in
-    let a = first.args in
-    and_then_lem a.s.now a.at (a.at + 2) (half_bytes (a.w / 65536)) (half_bytes (a.w % 65536)) refl first.put_half.ensures second.put_half-2.ensures
+    let a = c.args in
+    put_run a.s.now a.at _ _ (word_bytes a.w) (c.copy_from_slice.ensures.after ∙ c.to_be_bytes.ensures ∙ word_told a.w (omega arith)) (omega arith) (omega arith)

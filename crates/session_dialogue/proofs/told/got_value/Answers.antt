@@ -10,4 +10,4 @@ came-is : (vs W : List ℕ) {n g k : ℕ} {X : List ℕ} → k ≡ g → W ≡ X
 came-is vs W {n} {k = k} {X = X} e u w = subst (λ (Y : List ℕ). Came vs n k Y) (sym u) (subst (λ (j : ℕ). Came vs n j X) (sym e) w)
 
 pub returns : goal.returns
-returns c = (λ vs w. c.await_values.ensures.0 vs (came-is vs _ c.one_more.ensures c.put_value.ensures w), c.await_values.ensures.1)
+returns c = (λ vs w. c.await_values.ensures.0 vs (came-is vs _ c.one_more-got.ensures c.put_at.ensures w), c.await_values.ensures.1)

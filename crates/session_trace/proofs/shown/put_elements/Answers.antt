@@ -6,13 +6,13 @@ use borrow.Author.Rules.{rules}
 use Rattle.session_trace.proofs.shown.put_elements.Goals as goal
 
 pub loop-el-init : goal.loop-el-init
-loop-el-init c = (omega arith, passed_none _ _ _ _ _, refl)
+loop-el-init c = (passed_none _ _ _ _ _, refl)
 
 pub put_element-p-requires : goal.put_element-p-requires
-put_element-p-requires c = (search rules, search rules, let h = element_room _ _ _ c.requires.0 c.loop-el.invariant.1 (omega arith) in omega arith)
+put_element-p-requires c = (search rules, let h = element_room _ _ _ c.args.net.now.good c.loop-el.invariant.0 (omega arith) in omega arith)
 
 pub loop-el-preserved : goal.loop-el-preserved
-loop-el-preserved c = (omega arith, passed_more _ _ _ c.loop-el.invariant.1 c.put_element-p.ensures, omega arith)
+loop-el-preserved c = (passed_more _ _ _ c.loop-el.invariant.0 c.put_element-p.ensures, omega arith)
 
 pub returns : goal.returns
-returns c = passed_all _ _ _ c.requires.0 c.loop-el.invariant.1 (omega arith)
+returns c = passed_all _ _ _ c.args.net.now.good c.loop-el.invariant.0 (omega arith)

@@ -7,13 +7,13 @@ use borrow.Author.Rules.{rules}
 use Rattle.session_trace.proofs.shown.put_variables.Goals as goal
 
 pub loop-v-init : goal.loop-v-init
-loop-v-init c = (omega arith, listed_none _ _ _ _ _ _, refl)
+loop-v-init c = (listed_none _ _ _ _ _ _, refl)
 
 pub put_owned-p-requires : goal.put_owned-p-requires
-put_owned-p-requires c = (search rules, search rules, λ e. let h = owned_room c.args.t.now c.args.shape c.args.el c.loop-v.v (omega arith) e in let r = c.loop-v.invariant.1.printed.room in omega arith)
+put_owned-p-requires c = (search rules, λ e. let h = owned_room c.args.net.now.table.now c.args.net.now.shape c.args.el c.loop-v.v (omega arith) e in let r = c.loop-v.invariant.0.printed.room in omega arith)
 
 pub loop-v-preserved : goal.loop-v-preserved
-loop-v-preserved c = (omega arith, listed_more _ _ _ _ c.loop-v.invariant.1 c.put_owned-p.ensures, omega arith)
+loop-v-preserved c = (listed_more _ _ _ _ c.loop-v.invariant.0 c.put_owned-p.ensures, omega arith)
 
 pub returns : goal.returns
-returns c = listed_all _ _ _ _ c.loop-v.invariant.1 (omega arith)
+returns c = listed_all _ _ _ _ c.loop-v.invariant.0 (omega arith)

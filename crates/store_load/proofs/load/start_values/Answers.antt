@@ -5,10 +5,10 @@ use native.Mathlib.Omega.{arith}
 use Rattle.store_load.proofs.load.start_values.Goals as goal
 
 pub loop-v-init : goal.loop-v-init
-loop-v-init c = (up_to_none _ _, omega arith, refl)
+loop-v-init c = (up_to_none _ _, refl)
 
 pub loop-v-preserved : goal.loop-v-preserved
-loop-v-preserved c = (up_to_more _ _ _ _ _ c.loop-v.invariant.0 c.start_variable.ensures, omega arith, omega arith)
+loop-v-preserved c = (up_to_more _ _ _ _ _ c.loop-v.invariant.0 c.start_variable.ensures, omega arith)
 
 pub returns : goal.returns
-returns c = up_to_end _ _ _ _ _ c.loop-v.invariant.0 (omega (arith, c.variables-n.ensures))
+returns c = up_to_end _ _ _ _ _ c.loop-v.invariant.0 (omega (arith, c.variables-v-end.ensures))

@@ -1,15 +1,10 @@
--- `zero` meets its contract. The invariant: the first k words are zeroed.
-use Rattle.rules_walks.proofs.laws.Walk.{up_to_none, up_to_more, up_to_end}
-use lib.ListN.{length-set}
-use mathlib.Core.Path.{refl}
-use native.Mathlib.Omega.{arith}
+-- `zero` meets its contract: the part that is filled, and the rest.
+use Rattle.std.proofs.Common.{rules, sym, ◌≡◌, replicate, take, length, length-take-le}
+use Rattle.store_load.proofs.Turns.{zeroes_fill}
 use Rattle.store_load.proofs.load.zero.Goals as goal
 
-pub loop-k-init : goal.loop-k-init
-loop-k-init c = (up_to_none _ _, omega arith, refl)
-
-pub loop-k-preserved : goal.loop-k-preserved
-loop-k-preserved c = (up_to_more _ _ _ _ _ c.loop-k.invariant.0 refl, omega arith, simp length-set c.loop-k.invariant.2)
-
 pub returns : goal.returns
-returns c = up_to_end _ _ _ _ _ c.loop-k.invariant.0 (omega arith)
+returns c =
+    let e : c.fill.new.self ≡ replicate (length (take c.args.n c.args.store.now)) 0 = c.fill.ensures.after (λ y k. search rules) in
+    let m : length (take c.args.n c.args.store.now) ≡ c.args.n = length-take-le c.args.n c.args.store.now c.requires in
+    rw (e, m) (sym (zeroes_fill _ _ c.requires))

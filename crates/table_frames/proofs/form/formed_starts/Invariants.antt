@@ -1,9 +1,6 @@
+use Rattle.std.proofs.Common.{◌+◌}
 use Rattle.table_frames.specs.Walked.{Walked}
-use Prim.Native.Nat.{◌≤◌, ◌-◌}
 use Rattle.table_frames.proofs.form.formed_starts.Given as goal
 
-abbrev pub invariant-loop-k : goal.invariant-loop-k
-invariant-loop-k l = (1 ≤ l.k) × (l.k ≤ 12) × Walked l.t l.from l.k l.f
-
-abbrev pub decreases-loop-k : goal.decreases-loop-k
-decreases-loop-k l = 12 - l.k
+abbrev pub invariant-loop-kind : goal.invariant-loop-kind
+invariant-loop-kind l = Walked l.t l.from (l.kind-index + 1) l.f

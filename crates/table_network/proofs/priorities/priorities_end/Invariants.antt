@@ -5,11 +5,7 @@ use Rattle.table_network.specs.Keys.{filtered}
 use Rattle.table_network.specs.Known.{Stretch}
 use mathlib.Core.Bool.{true}
 use mathlib.Core.Path.{◌≡◌}
-use Prim.Native.Nat.{◌≤◌, ◌-◌}
 use Rattle.table_network.proofs.priorities.priorities_end.Given as goal
 
 abbrev pub invariant-loop-f : goal.invariant-loop-f
-invariant-loop-f l = Stretch l.t 1 l.n 0 l.hi × (l.f ≤ l.hi) × Marked (filtered l.t) 64 l.set l.f × (all_to (fresh 1 l.t) l.f ≡ true)
-
-abbrev pub decreases-loop-f : goal.decreases-loop-f
-decreases-loop-f l = l.hi - l.f
+invariant-loop-f l = Stretch l.t 1 l.front.n 0 l.hi × Marked (filtered l.t) 64 l.set l.f × (all_to (fresh 1 l.t) l.f ≡ true)

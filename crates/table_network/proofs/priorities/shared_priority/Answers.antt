@@ -9,6 +9,6 @@ returns-then-mark c = let a = c.args in
 
 pub returns-else-mark : goal.returns-else-mark
 returns-else-mark c = let a = c.args in (
-  filter_tells a.t.now a.f _ a.set.now c.field-p.ensures.0 c.requires.1 (sym c.mark.ensures.0 ∙ c.if-mark.false),
+  c.if-mark.false ∙ filter_tells a.t.now a.f _ a.set.now c.field-p.ensures.0 c.requires.1 (sym c.mark.ensures.0 ∙ c.if-mark.false),
   rw c.mark.ensures.1 (filter_more a.t.now a.f _ a.set.now c.field-p.ensures.0 c.requires.1),
 )

@@ -1,0 +1,12 @@
+use Rattle.rules_tables.specs.Kind.{input}
+use Rattle.rules_tables.specs.Ids.{first_variable, variables}
+use Rattle.rules_traces.specs.Gather.{gather}
+use Rattle.table_index.specs.Walk.{Goes}
+use Rattle.moves_tell.specs.Brought.{brought}
+use Rattle.moves_tell.specs.Taped.{Taped}
+use Rattle.moves_tell.proofs.take.tell_brought.Given as goal
+
+abbrev pub invariant-loop-v : goal.invariant-loop-v
+invariant-loop-v l =
+    Goes l.ix.net.table.now (first_variable l.ix.net.shape) (variables l.ix.net.shape) input l.el l.v-iterator
+    × Taped (gather (brought l.passed l.ix.net.table.now l.ix.net.shape l.i l.store) l.v-iterator.at) l.initial.tape l.tape

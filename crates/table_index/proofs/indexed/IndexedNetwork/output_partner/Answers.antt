@@ -1,0 +1,5 @@
+use mathlib.Core.Path.{◌∙◌}
+use Rattle.table_index.proofs.indexed.IndexedNetwork.output_partner.Goals as goal
+
+pub returns : goal.returns
+returns c = c.from.ensures ∙ c.args.self.now.indexed.output_partners _ c.requires

@@ -1,5 +1,0 @@
-use mathlib.Core.Path.{◌∙◌}
-use Rattle.table_index.proofs.read.output_partner.Goals as goal
-
-pub returns : goal.returns
-returns c = c.entry.ensures ∙ c.requires.0.output_partners _ c.requires.1
