@@ -91,11 +91,9 @@ fn give_all(ix: &IndexedNetwork, store: &mut [u32], o: usize, values: &[u32])
     requires { length values.now ≡ value_count_of ix.now.net.table.now ix.now.net.shape o }
     ensures { store.new ≡ up_to (give ix.now.net.table.now ix.now.net.shape o values.now) (associations_of ix.now.net.shape) store.old }
 {
-    let mut k = 0;
-    for j in ix.associations_of(OF_OUTPUT, o) {
+    for (k, j) in ix.associations_of(OF_OUTPUT, o).enumerate() {
         let v = field(ix.net.table, ix.net.association_frame(j), 1);
         put_value(store, ix.net.shape, v, values[k]);
-        k += 1;
     }
 }
 

@@ -41,10 +41,7 @@ pub fn whole_line(text: &[u8], k: usize) -> bool
     ensures { result ≡ whole_line text.now k }
 {
     let at = STRIDE * k;
-    if text.len() - at < DIGITS {
-        return false;
-    }
-    all_digits(line_at(text, k)) && ended_at(text, at + DIGITS)
+    DIGITS <= text.len() - at && all_digits(line_at(text, k)) && ended_at(text, at + DIGITS)
 }
 
 // The frame of line k.

@@ -80,21 +80,21 @@ fn answered(answer: Answer) -> Six {
     Six(
         answer.number() as u64,
         answer.frame() as u64,
-        answer.moves() as u64,
-        answer.stop() as u64,
+        u64::from(answer.moves()),
+        u64::from(answer.stop()),
         answer.bytes() as u64,
-        answer.untrue() as u64,
+        u64::from(answer.untrue()),
     )
 }
 
 // The first record of the output: element and event input, birth, last update, now, a value.
 fn recorded(out: &[u8; 4096]) -> Six {
     Six(
-        word_at(out, 0) as u64,
-        word_at(out, 4) as u64,
-        word_at(out, 8) as u64,
-        word_at(out, 12) as u64,
-        word_at(out, 16) as u64,
+        u64::from(word_at(out, 0)),
+        u64::from(word_at(out, 4)),
+        u64::from(word_at(out, 8)),
+        u64::from(word_at(out, 12)),
+        u64::from(word_at(out, 16)),
         0,
     )
 }
@@ -103,10 +103,10 @@ fn recorded(out: &[u8; 4096]) -> Six {
 fn due(store: &[u32; 41]) -> Six {
     let next = next_due(store);
     Six(
-        due_flag(store, 1) as u64,
-        due_time(store, 1) as u64,
-        next.due as u64,
-        next.time as u64,
+        u64::from(due_flag(store, 1)),
+        u64::from(due_time(store, 1)),
+        u64::from(next.due),
+        u64::from(next.time),
         0,
         0,
     )
@@ -115,8 +115,8 @@ fn due(store: &[u32; 41]) -> Six {
 // The untrue steps that a run tells, and word 11 after it.
 fn counted(answer: Answer, store: &[u32; 41]) -> Six {
     Six(
-        answer.untrue() as u64,
-        untrue_count(store) as u64,
+        u64::from(answer.untrue()),
+        u64::from(untrue_count(store)),
         0,
         0,
         0,
@@ -127,7 +127,14 @@ fn counted(answer: Answer, store: &[u32; 41]) -> Six {
 // The result of an operation, and 1 where it is the true one.
 fn result(op: usize, b: u32, c: u32) -> Six {
     let told = outcome_words(op, b, c, 0);
-    Six(to_word(told.result) as u64, told.is_true as u64, 0, 0, 0, 0)
+    Six(
+        u64::from(to_word(told.result)),
+        u64::from(told.is_true),
+        0,
+        0,
+        0,
+        0,
+    )
 }
 
 // What comes out of a case on its table.

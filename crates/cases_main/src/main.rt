@@ -76,12 +76,12 @@ fn tell(rt: &impl Print, title: &str, out: Six, right: bool) {
 
 fn main(rt: HostRuntime) {
     let mut points = 0u64;
-    for i in 0..38 {
+    for (i, &title) in TITLES.iter().enumerate() {
         let row = data::row_at(i);
         let want = Six(row.9, row.10, row.11, row.12, row.13, row.14);
         let out = ask::outcome(row);
         let right = out == want;
-        tell(&rt, TITLES[i], out, right);
+        tell(&rt, title, out, right);
         points += u64::from(right);
     }
     let _ = rt.print(points);

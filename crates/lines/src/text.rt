@@ -30,8 +30,8 @@ fn put_digits(bytes: &[u8], text: &mut [u8], at: usize)
     requires { at + 2 * length bytes.now ≤ length text.old }
     ensures { text.new ≡ sets text.old at (digits bytes.now) }
 {
-    for i in 0..bytes.len() {
-        put_pair(text, at + 2 * i, bytes[i]);
+    for (i, &b) in bytes.iter().enumerate() {
+        put_pair(text, at + 2 * i, b);
     }
 }
 

@@ -38,7 +38,7 @@ fn associates(ix: &IndexedNetwork, i: usize, v: usize) -> bool
 }
 
 // Variable u, which gets what input v gets from its buffer, will differ from before. Most events bring what was there: so the values are compared first.
-fn differs(ix: &IndexedNetwork, store: &[u32], i: usize, v: usize, u: usize) -> bool
+pub fn differs(ix: &IndexedNetwork, store: &[u32], i: usize, v: usize, u: usize) -> bool
     requires { (v < variables_of ix.now.net.shape) × (u < variables_of ix.now.net.shape) × (need ix.now.net.shape ≤ length store.now) }
     ensures { result ≡ both (associated ix.now.net.table.now ix.now.net.shape i v) (not (eqb (value ix.now.net.shape store.now u) (buffer ix.now.net.shape store.now v))) }
 {

@@ -1,5 +1,6 @@
 // The calls of the step program, and what they print.
 ghost use Rattle.std.specs.Prelude.{◌≡◌, ℕ, ◌+◌, ◌*◌, ◌<◌, ◌≤◌, List, ◌++◌, length, take, set};
+ghost use Rattle.std.proofs.lemmas.List.Edits.{sets};
 ghost use Rattle.rules_calls.specs.Answer.{bytes_of};
 ghost use Rattle.rules_tables.specs.Judge.{judged};
 ghost use Rattle.rules_sessions.specs.AnswerLine.{answer_line};
@@ -41,6 +42,16 @@ fn after_load(a: Answer) -> Phase
     }
 }
 
+// The line of a call's answer, and what comes after it.
+fn tell(a: Answer, phase: Phase, text: &mut [u8], s: Session) -> Session
+    requires { s.at + 25 ≤ length text.old }
+    ensures { ((result.phase ≡ phase) × (result.end ≡ s.end) × (result.length ≡ s.length) × (result.at ≡ s.at + 25))
+        × (text.new ≡ sets text.old s.at (answer_line a)) }
+{
+    let at = put_answer(text, s.at, a);
+    s.told(phase, at)
+}
+
 // The table is loaded.
 pub fn tell_load(t: &[u8], store: &mut [u32], text: &mut [u8], s: Session) -> Session
     requires { s.at + 25 ≤ length text.old }
@@ -48,8 +59,7 @@ pub fn tell_load(t: &[u8], store: &mut [u32], text: &mut [u8], s: Session) -> Se
         × Calm 25 s result }
 {
     let a = load(stretch(t, s.end), store);
-    let at = put_answer(text, s.at, a);
-    s.told(after_load(a), at)
+    tell(a, after_load(a), text, s)
 }
 
 // 80.
@@ -59,8 +69,7 @@ fn tell_advance(t: &[u8], store: &mut [u32], to: u32, text: &mut [u8], s: Sessio
         × Calm 25 s result }
 {
     let a = advance(stretch(t, s.end), store, to);
-    let at = put_answer(text, s.at, a);
-    s.told(Phase::Calls, at)
+    tell(a, Phase::Calls, text, s)
 }
 
 // 81 with all its values, the first of `values`.
@@ -84,8 +93,7 @@ fn tell_arrival(
         a.birth,
         stretch(values, a.number),
     );
-    let at = put_answer(text, s.at, answer);
-    s.told(Phase::Calls, at)
+    tell(answer, Phase::Calls, text, s)
 }
 
 // A run's records and then its answer.

@@ -21,11 +21,11 @@ pub fn number_in(word: &[u8]) -> Option<usize>
         return None;
     }
     let mut n = 0;
-    for i in 0..size {
-        if !is_decimal(word[i]) {
+    for &c in word {
+        if !is_decimal(c) {
             return None;
         }
-        n = n * 10 + usize::from(word[i] - b'0');
+        n = n * 10 + usize::from(c - b'0');
     }
     Some(n)
 }

@@ -21,7 +21,7 @@ use std::io::Read;
 pub enum Wish {
     // The lines of its trace, and then an empty line: of every run.
     Trace,
-    // Chart states and values after at most so many frames: of one run, the first of those to come or a later one.
+    // Chart states and values after at most so many frames: of one run of those to come, counted from 1.
     Show { run: usize, frames: usize },
 }
 

@@ -4,7 +4,7 @@ ghost use Rattle.rules_walks.specs.All.{all_to};
 ghost use Rattle.rules_tables.specs.Actions.{action_of};
 ghost use Rattle.rules_store.specs.Word.{spares};
 ghost use Rattle.store_words.specs.Small.{Small};
-ghost use Rattle.rules_store.specs.WellFormed.{spare_ok, next_ok, rest_ok, owner_ok, step_ok, mode_ok, running_ok};
+ghost use Rattle.rules_store.specs.WellFormed.{spare_ok, next_ok, owner_ok, step_ok, mode_ok, running_ok};
 
 use numbers::word::wide;
 use rules_store::{ACTS, CHARTS, IDLE, Running};
@@ -30,22 +30,7 @@ pub fn next_ok(store: &[u32], shape: Shape) -> bool
     requires { Small shape }
     ensures { result ≡ next_ok shape store.now }
 {
-    let stored = next_due(store);
-    let found = earliest(store, shape.elements());
-    stored.due == found.due && stored.time == found.time
-}
-
-// Idle: words 1 to 7 are zero.
-#[tactic(auto, unfolding(rules_store::specs::WellFormed::rest_ok))]
-fn rest_ok(store: &[u32], r: Running) -> bool
-    ensures { result ≡ rest_ok r store.now }
-{
-    running_element(store) == 0
-        && current_event(store) == 0
-        && r.birth == 0
-        && r.live == 0
-        && r.action == 0
-        && r.step == 0
+    next_due(store) == earliest(store, shape.elements())
 }
 
 // Element e and event input i, both plus 1: the element basic, the event its own.
@@ -83,17 +68,16 @@ fn mode_ok(net: &Network, r: Running, q: usize) -> bool
     r.mode == ACTS && r.live == 0 && step_ok(net, q, r)
 }
 
-// The running block.
-#[tactic(auto, unfolding(rules_store::specs::WellFormed::running_ok))]
+// The running block. Idle means that words 1 to 7 are zero.
+#[tactic(auto, unfolding(rules_store::specs::WellFormed::running_ok, rules_store::specs::WellFormed::rest_ok))]
 pub fn running_ok(net: &Network, store: &[u32], r: Running) -> bool
     ensures { result ≡ running_ok net.now.table.now net.now.shape r store.now }
 {
     if r.mode == IDLE {
-        return rest_ok(store, r);
+        return running_element(store) == 0 && current_event(store) == 0 && r == Running::rest();
     }
     let e = wide(running_element(store));
-    if !owner_ok(net, e, wide(current_event(store))) {
-        return false;
-    }
-    r.birth <= time(store) && mode_ok(net, r, wide(chart_state(store, e - 1)))
+    owner_ok(net, e, wide(current_event(store)))
+        && r.birth <= time(store)
+        && mode_ok(net, r, wide(chart_state(store, e - 1)))
 }

@@ -121,7 +121,7 @@ impl<'a> IndexedNetwork<'a> {
     }
 
     // The first action of chart state q, or their number where it has none.
-    pub(crate) fn first_action(&self, q: usize) -> usize
+    pub fn first_action(&self, q: usize) -> usize
         ensures { Leads (belongs self.now.net.table.now (first_action self.now.net.shape) any q) 0 result (actions_of self.now.net.shape) }
     {
         let side = Side {

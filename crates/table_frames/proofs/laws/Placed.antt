@@ -30,7 +30,7 @@ module _ (T : List ℕ) where
   pub slot_in : (f k : ℕ) → f < frames_of T → kind_at T f ≡ k → start_of T k + count_to T k f < frames_of T
   slot_in f k l e = omega (arith, slot_below f k l e, below_le T (k + 1) (frames_of T))
 
-  id_in : (k id : ℕ) → id < count_of T k → start_of T k + id < frames_of T
+  pub id_in : (k id : ℕ) → id < count_of T k → start_of T k + id < frames_of T
   id_in k id l = omega (arith, below_next T k (frames_of T), below_le T (k + 1) (frames_of T))
 
   -- an earlier frame belongs elsewhere

@@ -5,4 +5,4 @@ use mathlib.Core.Path.{refl}
 use Rattle.session_dialogue.proofs.told.tell_arrival.Goals as goal
 
 pub returns : goal.returns
-returns c = (λ l. told_arrival _ _ c.told.ensures _ _ _ _ _ _ _ l c.stretch.ensures c.args.a.number _ _ _ c.stretch-2.ensures c.arrival-answer.ensures refl c.put_answer-at.ensures, told_calm _ _ c.told.ensures 25 (omega (arith, c.put_answer-at.ensures.1)))
+returns c = (λ l. told_arrival _ _ c.tell.ensures.0 _ _ _ _ _ _ _ l c.stretch.ensures c.args.a.number _ _ _ c.stretch-2.ensures c.arrival-answer.ensures refl (c.tell.ensures.1, refl), told_calm _ _ c.tell.ensures.0 25 (omega arith))

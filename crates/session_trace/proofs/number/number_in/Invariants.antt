@@ -1,5 +1,5 @@
 use Rattle.session_trace.proofs.Counting.{Counted}
 use Rattle.session_trace.proofs.number.number_in.Given as goal
 
-abbrev pub invariant-loop-i : goal.invariant-loop-i
-invariant-loop-i l = Counted l.word l.i l.n
+abbrev pub invariant-loop-c : goal.invariant-loop-c
+invariant-loop-c l = Counted l.word l.c-index l.n
