@@ -38,11 +38,13 @@ clipped_low (negsuc n) g e =
     let h = past n (λ l. g (record { sfits = l })) in
     rw (choose_true _ _ _ (lt-ltb 2147483647 n h), ne_eqb 2147483647 n (λ q. omega arith))
 
-pub clipped_high : (z : ℤ) → (SFits w32 z → ⊥) → lt_z z (pos 0) ≡ false → telling highest undefined ≡ clipped z
+pub clipped_past : (z : ℤ) → lt_z highest z ≡ true → telling highest undefined ≡ clipped z
 unfolding clip choose
-clipped_high (pos n) g e =
-    let h = past n (λ l. g (record { sfits = l })) in
-    rw (lt-ltb 2147483647 n h, ne_eqb 2147483647 n (λ q. omega arith))
+clipped_past (pos n) e = rw (lt-ltb 2147483647 n (ltb-true 2147483647 n e), ne_eqb 2147483647 n (λ q. omega (arith, ltb-true 2147483647 n e)))
+clipped_past (negsuc n) e = clash e
+
+pub clipped_high : (z : ℤ) → (SFits w32 z → ⊥) → lt_z z (pos 0) ≡ false → telling highest undefined ≡ clipped z
+clipped_high (pos n) g e = clipped_past (pos n) (lt-ltb 2147483647 n (past n (λ l. g (record { sfits = l }))))
 clipped_high (negsuc n) g e = clash (sym e)
 
 pub clipped_kept : (z : ℤ) → SFits w32 z → itself z ≡ clipped z

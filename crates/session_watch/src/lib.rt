@@ -169,15 +169,17 @@ fn watch_byte(
     }
 }
 
-// One byte of the input, and what it ends. Answers the session that goes on: it has not stopped, and a run is to come.
+// One byte of the input, and what it ends: the session goes on. Answers None where it has stopped or no run is to come. A call for each byte would cost more than
+// the byte, and so would a session that is handed on: this and `take_all` are each called from one place, so that the compiler builds them into the loop, and the
+// session is changed where it lies.
 fn take_byte(
     rt: &impl Print,
     b: &mut Buffers<2000>,
     copy: &mut [u32; 2000],
     byte: u8,
-    s: Sought,
-) -> Option<Sought> {
-    let wish = watch_byte(rt, b, copy, byte, s)?;
+    s: &mut Sought,
+) -> Option<()> {
+    let wish = watch_byte(rt, b, copy, byte, *s)?;
     let fed = feed(
         &mut b.table,
         &mut b.store,
@@ -188,25 +190,25 @@ fn take_byte(
         s.session,
     );
     let session = fed.session.written();
+    *s = Sought { session, wish };
     if session.stopped() {
         return None;
     }
-    Some(Sought { session, wish })
+    Some(())
 }
 
-// The bytes that were read, one by one.
+// The bytes that were read, one by one, up to the last that is wanted.
 fn take_all(
     rt: &impl Print,
     b: &mut Buffers<2000>,
     copy: &mut [u32; 2000],
     input: &[u8],
-    start: Sought,
-) -> Option<Sought> {
-    let mut s = start;
+    s: &mut Sought,
+) -> Option<()> {
     for byte in input {
-        s = take_byte(rt, b, copy, *byte, s)?;
+        take_byte(rt, b, copy, *byte, s)?;
     }
-    Some(s)
+    Some(())
 }
 
 // Reads once. The search ends where the input does, and where a read fails. The last line perhaps has no 0A: it gets one, as if it had been read.
@@ -216,16 +218,12 @@ fn read_some<R: Read>(
     b: &mut Buffers<2000>,
     copy: &mut [u32; 2000],
     input: &mut [u8],
-    s: Sought,
-) -> Option<Sought> {
-    match from.read(input) {
-        Ok(0) => {
-            let _ = take_byte(rt, b, copy, b'\n', s);
-            None
-        }
-        Ok(n) => take_all(rt, b, copy, stretch(input, n), s),
-        Err(_) => None,
-    }
+    s: &mut Sought,
+) -> Option<()> {
+    let n = from.read(input).ok()?;
+    let piece = if n == 0 { b"\n" } else { stretch(input, n) };
+    take_all(rt, b, copy, piece, s)?;
+    if n == 0 { None } else { Some(()) }
 }
 
 // Reads until no run is to come or the session stops. A proved loop has to end, and nothing says that the input does: so it counts its turns, up to a number
@@ -243,10 +241,9 @@ fn read_all<R: Read>(
         wish,
     };
     for _ in 0..u64::MAX {
-        let Some(next) = read_some(rt, from, b, copy, input, s) else {
+        if read_some(rt, from, b, copy, input, &mut s).is_none() {
             return;
-        };
-        s = next;
+        }
     }
 }
 

@@ -98,7 +98,7 @@ fn read_some<R: Read>(
     }
 }
 
-// Reads until the session stops. A proved loop has to end, and nothing says that the input does: so it counts its turns down, from a number that no run uses up.
+// Reads until the session stops. A proved loop has to end, and nothing says that the input does: so it counts its turns, up to a number that no run uses up.
 fn read_all<R: Read>(
     rt: &impl Print,
     from: &mut R,

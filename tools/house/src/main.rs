@@ -1,8 +1,8 @@
 //! What must be believed: the definitions that the public statements of this repository reach, and the files they stand in.
 //!
 //! A file of `specs/` or `proofs/laws/` is read as a header, its imports and its items. An item is a definition (`abbrev`, `unfoldable`, `record`,
-//! `data`) or a law. From the contracts of the public functions, from the laws named below and from nothing else the names are followed through the imports
-//! until no file is new.
+//! `data`) or a law. From the contracts of the public functions, from the ghost fields of the types that they take or answer, from the laws named below and
+//! from nothing else the names are followed through the imports until no file is new.
 
 mod page;
 mod specs;

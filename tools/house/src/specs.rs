@@ -278,12 +278,15 @@ impl House {
     }
 }
 
-/// What the promises of the public functions of a source file name. A promise stands between braces, after its kind and maybe its name, on one line or more.
+/// What the promises of the public functions of a source file name, and what the types keep that these functions take or answer. A promise stands between
+/// braces, after its kind and maybe its name, on one line or more.
 fn contract_names(path: &str) -> Vec<(Place, String)> {
     let Ok(text) = fs::read_to_string(path) else { return Vec::new() };
     let mut imported = BTreeMap::new();
     let mut promised = BTreeSet::new();
+    let mut signed = BTreeSet::new();
     let mut public = false;
+    let mut signature = false;
     let mut open = 0;
     for line in text.lines() {
         if let Some(rest) = line.strip_prefix("ghost use ") {
@@ -291,12 +294,18 @@ fn contract_names(path: &str) -> Vec<(Place, String)> {
         }
         let start = line.trim_start();
         if start.starts_with("pub fn ") || start.starts_with("pub extern ") {
-            public = true;
+            (public, signature) = (true, true);
         } else if start.starts_with("fn ") {
-            public = false;
+            (public, signature) = (false, false);
+        }
+        let clause = start.starts_with("ensures") || start.starts_with("requires");
+        signature = signature && !clause;
+        if signature {
+            signed.extend(start.split(|c: char| !c.is_alphanumeric()).map(str::to_string));
+            signature = !start.ends_with('{');
         }
         let promise = match open {
-            0 if start.starts_with("ensures") || start.starts_with("requires") => start.find('{').map_or("", |at| &start[at..]),
+            0 if clause => start.find('{').map_or("", |at| &start[at..]),
             0 => continue,
             _ => start,
         };
@@ -305,5 +314,40 @@ fn contract_names(path: &str) -> Vec<(Place, String)> {
             promised.extend(words(promise));
         }
     }
-    imported.into_iter().filter(|(name, _)| promised.contains(name)).map(|(_, from)| from).collect()
+    let kept =
+        sources(path, &text).into_iter().filter(|(here, _)| signed.contains(here)).flat_map(|(_, (source, there))| ghost_names(&source, &there));
+    imported.into_iter().filter(|(name, _)| promised.contains(name)).map(|(_, from)| from).chain(kept).collect()
+}
+
+/// Where each imported name comes from, a source file and its name there: `store_words::network::Network` is of crates/store_words/src/network.rt. An import
+/// may go over several lines.
+fn sources(path: &str, text: &str) -> BTreeMap<String, (String, String)> {
+    let own = path.split('/').nth(1).unwrap_or("");
+    let mut out = BTreeMap::new();
+    for import in text.split("\nuse ").skip(1) {
+        let Some((from, names)) = import.split(';').next().and_then(|i| i.rsplit_once("::")) else { continue };
+        let (library, module) = from.split_once("::").unwrap_or((from, "lib"));
+        let library = if library == "crate" { own } else { library };
+        for name in names.split(['{', '}', ',']).map(str::trim).filter(|name| !name.is_empty()) {
+            let (there, here) = name.split_once(" as ").unwrap_or((name, name));
+            out.insert(here.to_string(), (format!("crates/{library}/src/{}.rt", module.replace("::", "/")), there.to_string()));
+        }
+    }
+    out
+}
+
+/// What the ghost fields of a type name: a promise that each value of it keeps, and a demand on who makes one.
+fn ghost_names(path: &str, name: &str) -> Vec<(Place, String)> {
+    let Ok(text) = fs::read_to_string(path) else { return Vec::new() };
+    let mut imported = BTreeMap::new();
+    for line in text.lines() {
+        if let Some(rest) = line.strip_prefix("ghost use ") {
+            imports(rest, &mut imported);
+        }
+    }
+    let head = format!("pub struct {name}");
+    let begins = |l: &str| l.strip_prefix(&head).is_some_and(|rest| !rest.starts_with(char::is_alphanumeric));
+    let body = text.lines().skip_while(|l| !begins(l)).take_while(|l| *l != "}");
+    let kept: BTreeSet<String> = body.filter(|l| l.contains("ghost ")).flat_map(words).collect();
+    imported.into_iter().filter(|(name, _)| kept.contains(name)).map(|(_, from)| from).collect()
 }

@@ -5,6 +5,9 @@ use Rattle.rules_numbers.specs.Truth.{itself}
 use Rattle.numbers.proofs.Signs.{clipped_low, clipped_high, clipped_kept}
 use Rattle.numbers.proofs.clip.narrow.Goals as goal
 
+-- What fits is itself.
+-- What does not is the low end where it is below 0, else the high end.
+
 pub returns-in-Ok : goal.returns-in-Ok
 returns-in-Ok c =
     let s = to_z-of_z c.ranges.x in
